@@ -44,7 +44,7 @@ class Relay:
 
     def requests(self):
         """The targets of what was asked, in order, and the status of each answer; and forgets them."""
-        asked = re.findall(rb"(?:GET|POST) (/\w+) HTTP/1\.1\r\n", bytes(self.asked))
+        asked = re.findall(rb"(?:GET|HEAD|POST) (/\w+) HTTP/1\.1\r\n", bytes(self.asked))
         told = re.findall(rb"HTTP/1\.1 (\d{3}) ", bytes(self.answered))
         self.forget()
         return [f"{target.decode()} {status.decode()}" for target, status in zip(asked, told)]
@@ -62,7 +62,7 @@ def try_one_sided(make, asked, folder):
     with running(b), running(a):
         quiet = lambda: soon(lambda: relay.requests()[-1:] == ["/ask 304"], "two nodes don't come to rest", 10 * a.slow)
         quiet()
-        for here, steps in (a, ["/ask 200", "/take 200"]), (b, ["/ask 200", "/answer 200"]):
+        for here, steps in (a, ["/push 200"]), (b, ["/ask 200", "/pull 200"]):
             quiet()
             edit_at(here, f"only/{here.own}", here.own)
             soon(lambda: value_at(a, f"only/{here.own}") == value_at(b, f"only/{here.own}"), "an edit doesn't come", 10)
@@ -76,6 +76,9 @@ def try_one_sided(make, asked, folder):
         soon(lambda: value_at(a, "both/b") == value_at(b, "both/b"), "an edit doesn't come", 10 * a.slow)
         soon(lambda: value_at(a, "both/a") == value_at(b, "both/a"), "an edit doesn't come", 10 * a.slow)
         want(a.document() == b.document(), "two nodes that have met differ")
+        soon(lambda: relay.answered.endswith(b"\r\n\r\n") and b" 304 " in relay.answered, "two nodes don't come to rest", 10)
+        found, steps = [step for step in relay.requests() if step != "/ask 304"], ["/ask 200", "/pull 200", "/push 200"]
+        want(found == steps, f"where both have something the steps are {found}, and {steps} are due")
     return "where one side alone has something, one step is made"
 
 

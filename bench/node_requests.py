@@ -269,6 +269,38 @@ def judge_texts(node):
     judge("a question of another group", other, '409 json {"fault":19,"name":"WrongGroup","text":".."}')
 
 
+def judge_tagged(node):
+    """What goes by the tag of a question: the node and another replica are level, and then each has something new."""
+    asked, theirs = node.answer("GET", "/ask"), node.told("ask", "b.rds")
+    tag, unknown = asked.headers["etag"].encode(), b'"%s-%s"' % (b"0" * 64, b"0" * 32)
+    node.told("set", "b.rds", "m/y", "8")
+    node.answer("POST", "/edits", b'["set","m/z",9]\n')
+    response = node.told("answer", "b.rds", given=asked.body)
+    push = lambda body: node.answer("POST", "/push", body)
+    pull = lambda body: node.answer("POST", "/pull", body)
+    no_tag = '412 json {"status":412,"text":"the tag is of no question that is known"}'
+    bad = '400 json {"fault":13,"name":"Bad","text":".."}'
+    for what, body in ("an unknown tag", unknown + response), ("half a tag", tag[:50]), ("no tag", b"oops"):
+        judge(f"a push of {what}", push(body), no_tag)
+    judge("a push of no response", push(tag + b"oops"), bad)
+    judge("a push of half a response", push(tag + response[:-1]), '400 json {"fault":12,"name":"Cut","text":".."}')
+    judge("a push of a question", push(tag + theirs), bad)
+    for time in "first", "second":
+        judge(f"the {time} push of a response", push(tag + response), '200 json {"taken":1}')
+    want(node.answer("GET", "/value/m/y").body == b"[8]\n", "what was pushed isn't there")
+    answer, due = pull(tag + b"\1"), node.answer("POST", "/answer", theirs)
+    is_due = answer.status == 200 and answer.headers["content-type"] == "application/octet-stream"
+    want(is_due and answer.body == due.body, f"a pull is answered {answer}")
+    (node.folder / "q").write_bytes(theirs)
+    node.told("take", "b.rds", "q", "-", given=answer.body)
+    want(json.loads(node.told("show", "b.rds")) == node.document(), "two replicas differ that have met by tags")
+    for what, body in ("an unknown tag", unknown + b"\1"), ("no tag", b"oops"):
+        judge(f"a pull of {what}", pull(body), no_tag)
+    for what, behind in ("no number", b""), ("two numbers", b"\1\1"):
+        judge(f"a pull with {what}", pull(tag + behind), bad)
+    judge("a pull of the node's own", pull(tag + b"\0"), '409 json {"fault":21,"name":"SameReplica","text":".."}')
+
+
 # What looks at the document, and requests that are refused whatever tag they show.
 LOOKS = ["/doc", "/doc/apples", "/here", "/here/apples", "/value/apples", "/value/nothing", "/conflicts"]
 REFUSED = {"/doc/a//b": 400, "/here/%FF": 400, "/value": 400, "/nothing": 404}
@@ -442,7 +474,7 @@ def try_requests(asked, folder):
     with running(node):
         comers = lambda node: judge_comers(node, MAY_COME)
         tags = judge_tags, judge_ask_tags
-        for part in judge_table, judge_heads, judge_pipes, judge_pieces, judge_texts, *tags, comers, stop_and_go_on:
+        for part in judge_table, judge_heads, judge_pipes, judge_pieces, judge_texts, judge_tagged, *tags, comers, stop_and_go_on:
             with noted:
                 part(node)
         document = node.document()

@@ -3,11 +3,12 @@ use Rattle.std.proofs.Common.{◌≡◌, ◌≢◌, ◌||◌, ◌∙◌, ℕ, Bo
 use Rattle.http.specs.declared.request.Request.{Request}
 use Rattle.http_server.specs.declared.response.Response.{Response}
 use Rattle.rds_names.specs.declared.fault.Fault.{Fault}
-use Rattle.rds_names.specs.declared.fault.Fault.TheVariants.{Memory}
+use Rattle.rds_names.specs.declared.fault.Fault.TheVariants.{Cut, Memory}
 use Rattle.rds_state.specs.Fits.{ReplicaValue}
+use Rattle.rds_store.specs.Meetings.{RefusesTaking}
 use Rattle.rds_http.specs.Access.{denial}
 use Rattle.rds_http.specs.Answers.{Answers, AnswersBy, Does, DoesPost, KeepsRest, asked_in, may_change, place_in}
-use Rattle.rds_http.specs.Changes.{AnswersEdits, AnswersQuestion, AnswersTake, RefusesBody}
+use Rattle.rds_http.specs.Changes.{AnswersEdits, AnswersQuestion, AnswersTake, AnswersTexts}
 use Rattle.rds_http.specs.Handshakes.{headers_of}
 use Rattle.rds_http.specs.Refusals.{IsDenied, TellsFault}
 use Rattle.rds_http.specs.Site.{SiteValue}
@@ -37,10 +38,18 @@ pub edits_refused : (body : List ℕ) (before after : ReplicaValue) (response : 
 edits_refused body before after response fault memory same told =
     inr (record { same = same; told = subst (λ f. TellsFault f response) memory told })
 
--- nothing is taken
-pub take_refused : (body : List ℕ) (before after : ReplicaValue) (response : Response) (fault : Fault)
-    → RefusesBody body before fault → after ≡ before → TellsFault fault response → AnswersTake body before after response
-take_refused body before after response fault why same told = inr (fault, why, record { same = same; told = told })
+-- what answers a question is refused
+pub texts_refused : (question answer : List ℕ) (before after : ReplicaValue) (response : Response) (fault : Fault)
+    → RefusesTaking question answer before fault → after ≡ before → TellsFault fault response
+    → AnswersTexts question answer before after response
+texts_refused question answer before after response fault why same told =
+    inr (fault, why, record { same = same; told = told })
+
+-- a body holds no two texts
+pub take_refused : (body : List ℕ) (before : ReplicaValue) (response : Response) (fault : Fault) → fault ≡ Cut
+    → TellsFault fault response → AnswersTake body before before response
+take_refused body before response fault cut told =
+    inr (record { same = refl; told = subst (λ f. TellsFault f response) cut told })
 
 -- ---- the whole answer
 

@@ -1,6 +1,8 @@
 -- Texts that are compared part by part.
 use Rattle.std.proofs.Common.{◌≡◌, ◌≢◌, ℕ, zero, suc, ◌+◌, ◌-◌, ◌<◌, Bool, true, false, ◌&&◌, nat_eq, bytes_eq, codes, List, [], ◌∷◌, ◌++◌, length, take, drop, slice_index, refl, sym, ap, ◌∙◌, arith, append_assoc, drop_at, length-append}
-use Rattle.std.proofs.lemmas.List.{take_all}
+use Rattle.std.proofs.lemmas.List.{take_all, take-append-drop}
+use Rattle.std.proofs.lemmas.Slice.Eq.{bytes_eq-Decides}
+use Rattle.std.proofs.Math.Seq.{take-append_seam}
 
 and-true : (b : Bool) → (b && true) ≡ b
 and-true b = elim b as (λ v. (v && true) ≡ v) [ true ↦ refl | false ↦ refl ]
@@ -65,3 +67,16 @@ pub fault-joined : (number name words : List ℕ)
     → ((codes "{\"fault\":" ++ (number ++ (codes ",\"name\":\"" ++ (name ++ codes "\",\"text\":\"")))) ++ words) ++ codes "\"}"
     ≡ codes "{\"fault\":" ++ (number ++ (codes ",\"name\":\"" ++ (name ++ (codes "\",\"text\":\"" ++ (words ++ codes "\"}")))))
 fault-joined number name words = simp append_assoc
+
+-- a text begins with another exactly where that is its front
+pub is_behind : (text start rest : List ℕ) → bytes_eq (take (length start) text) start ≡ true → rest ≡ drop (length start) text
+    → text ≡ start ++ rest
+is_behind text start rest begins is =
+    sym (take-append-drop (length start) text)
+    ∙ ap (λ front. front ++ drop (length start) text) ((bytes_eq-Decides (take (length start) text) start).1 begins)
+    ∙ ap (λ r. start ++ r) (sym is)
+
+pub none_behind : (text start rest : List ℕ) → bytes_eq (take (length start) text) start ≡ false → text ≡ start ++ rest → ⊥
+none_behind text start rest other is =
+    let begins : take (length start) text ≡ start = ap (take (length start)) is ∙ take-append_seam start rest in
+    absurd (cc ((bytes_eq-Decides (take (length start) text) start).0 begins, other))

@@ -4,12 +4,13 @@ ghost use Rattle.std.specs.Prelude.{◌≡◌, ◌≢◌, ◌↔◌, IsTrue};
 use crate::channels::Channel;
 use crate::committed::Committed;
 use crate::destinations::Destination;
+use crate::levels::Level;
 use crate::requests::{Request, Resource, Response};
 use crate::troubles::{End, Trouble};
 use rds_files::{Disk, LockFile};
 use rds_http::{Lacks, Site, Tag};
 use rds_names::Fault;
-use std::alloc::{AllocError, Global};
+use std::alloc::Global;
 use std::mem;
 use std::time::Instant;
 
@@ -19,7 +20,7 @@ pub const DONE: u16 = 200;
 /// The status of a question that is not sent, since it is known.
 pub const NOT_MODIFIED: u16 = 304;
 
-/// The status of an answer that is not taken, since the peer asks something else by now.
+/// The status where a tag is of no question that the peer knows.
 const PRECONDITION_FAILED: u16 = 412;
 
 /// The status of a resource that an older node lacks.
@@ -37,17 +38,28 @@ enum Step {
         own: Vec<u8>,
         theirs: Option<Vec<u8>>,
     },
-    /// The peer is given the answer to its question. It may be as far as this node then.
-    Giving { level: Option<Known> },
-    /// The same of a question that is known by its tag.
-    Pushing { level: Option<Known> },
-}
-
-/// What a peer asks that is as far as this node was, and the tag of that.
-#[derive(Drop)]
-struct Known {
-    tag: Tag,
-    question: Vec<u8>,
+    /// The peer is given the answer to its question. Then it is as far as this node was.
+    Giving {
+        level: Option<Level>,
+    },
+    /// The peer is asked for the tag of its question, which was level with this node.
+    Checking {
+        level: Level,
+    },
+    /// The peer is asked for what came since it was level, and is then given what came here since, which was all up to a
+    /// tag.
+    Pulling {
+        level: Level,
+        answer: Option<Vec<u8>>,
+        tag: Tag,
+    },
+    /// The peer is given what came here since it was level. Then it is as far as this node was, unless it was changed
+    /// meanwhile.
+    Pushing {
+        level: Level,
+        next: Option<Level>,
+        brought: bool,
+    },
 }
 
 /// What hearing a peer came to.
@@ -76,8 +88,12 @@ pub struct Exchange {
     step: Step,
     // The peer's number in its roster, where it told that.
     number: Option<u8>,
-    // What it asked last, where it was as far as this node.
-    known: Option<Known>,
+    // What both asked when they were level.
+    level: Option<Level>,
+    // The same of an earlier time, where the peer may not know the last one.
+    earlier: Option<Level>,
+    // Whether the peer may know what it asked by a tag.
+    knows_tags: bool,
     // Whether an exchange over the connection was done.
     has_served: bool,
 }
@@ -90,7 +106,9 @@ impl Exchange {
             channel,
             step: Step::Resting,
             number: None,
-            known: None,
+            level: None,
+            earlier: None,
+            knows_tags: true,
             has_served: false,
         }
     }
@@ -119,7 +137,7 @@ impl Exchange {
         }
     }
 
-    /// Begins an exchange: the peer is asked for its question, unless that has the own tag, or is known. `Ended` where
+    /// Begins an exchange: the peer is asked for its question, or for the tag of that where it was level. `Ended` where
     /// the peer takes no further request.
     pub fn begin<H: Disk>(
         &mut self,
@@ -130,27 +148,37 @@ impl Exchange {
     where
         H::File: LockFile,
     {
-        let tags = self.known_tags(site.tag()?)?;
-        let request = Request {
-            resource: Resource::Ask,
-            path: "",
-            unless: Some(tags.as_str()),
-            pieces: &[],
-        };
-        self.channel.request(destination, &request, now)?;
-        self.step = Step::Asking;
+        let own = site.tag()?;
+        match self.level.take() {
+            Some(level) => {
+                let tags = level.tags(self.alloc, own)?;
+                self.look(destination, Resource::Tag, &tags, now)?;
+                self.step = Step::Checking { level };
+            }
+            None => {
+                let tag = format!(in self.alloc; "{own}")?;
+                self.look(destination, Resource::Ask, &tag, now)?;
+                self.step = Step::Asking;
+            }
+        }
         Ok(())
     }
 
-    // The tags of questions that the peer needn't send.
-    fn known_tags(&self, own: Tag) -> Result<String, AllocError> {
-        match &self.known {
-            Some(known) if known.tag != own => {
-                let tag = known.tag;
-                format!(in self.alloc; "{own}, {tag}")
-            }
-            _ => format!(in self.alloc; "{own}"),
-        }
+    // Asks for something, unless its tag is one of these.
+    fn look(
+        &mut self,
+        destination: &Destination<'_>,
+        resource: Resource,
+        tags: &str,
+        now: Instant,
+    ) -> Result<(), Trouble> {
+        let request = Request {
+            resource,
+            path: "",
+            unless: Some(tags),
+            pieces: &[],
+        };
+        self.channel.request(destination, &request, now)
     }
 
     /// Reads what the peer says, up to a limit, and goes on with what follows.
@@ -185,16 +213,39 @@ impl Exchange {
         match (step, response.head.status) {
             (Step::Resting, DONE) => Ok(Progress::NONE),
             (Step::Asking, DONE) => self.compare(site, destination, response, now),
-            (Step::Asking, NOT_MODIFIED) => self.agree(site, destination, &response, now),
+            (Step::Asking, NOT_MODIFIED) => self.agree(site, &response),
+            (Step::Checking { level }, DONE | NOT_MODIFIED) => {
+                self.check(site, destination, level, &response, now)
+            }
             (Step::Bringing { own, theirs }, DONE) => {
                 let brought = site.take(&own, &response.body)? != 0;
                 self.give_back(site, destination, theirs, brought, now)
             }
-            (Step::Giving { level } | Step::Pushing { level }, DONE) => {
-                self.known = level;
+            (Step::Pulling { level, answer, tag }, DONE) => {
+                self.pulled(site, destination, (level, answer, tag), &response, now)
+            }
+            (Step::Giving { level }, DONE) => {
+                self.level = level;
                 Ok(self.end(End::Done, false))
             }
-            (Step::Pushing { .. }, PRECONDITION_FAILED | NOT_FOUND) => {
+            (
+                Step::Pushing {
+                    level,
+                    next,
+                    brought,
+                },
+                DONE,
+            ) => {
+                self.step_up(level, next);
+                Ok(self.end(End::Done, brought))
+            }
+            (Step::Pulling { .. } | Step::Pushing { .. }, PRECONDITION_FAILED) => {
+                self.level = self.earlier.take();
+                self.begin(site, destination, now)?;
+                Ok(Progress::NONE)
+            }
+            (Step::Pulling { .. } | Step::Pushing { .. }, NOT_FOUND) => {
+                self.knows_tags = false;
                 self.begin(site, destination, now)?;
                 Ok(Progress::NONE)
             }
@@ -202,14 +253,12 @@ impl Exchange {
         }
     }
 
-    // The peer asks what is known. It may be this node's own replica, that runs elsewhere.
-    fn agree<H: Disk>(
+    // Notes the peer's number. It may be this node's own replica, that runs elsewhere.
+    fn note_number<H: Disk>(
         &mut self,
-        site: &mut Site<'_, H>,
-        destination: &Destination<'_>,
+        site: &Site<'_, H>,
         response: &Response,
-        now: Instant,
-    ) -> Result<Progress, Trouble>
+    ) -> Result<(), Trouble>
     where
         H::File: LockFile,
     {
@@ -217,56 +266,178 @@ impl Exchange {
         if self.number == Some(site.own()) {
             return Err(Trouble::Unfit(Fault::SameReplica));
         }
-        let own = site.tag()?;
-        match (self.known.take(), response.head.tag) {
-            (Some(known), Some(tag)) if known.tag == tag && tag != own => {
-                self.push(site, destination, known, now)?;
-                Ok(Progress::NONE)
-            }
-            (None, Some(tag)) if tag == own => {
-                self.known = self.level(site)?;
-                Ok(self.end(End::Level, false))
-            }
-            (known, _) => {
-                self.known = known;
-                Ok(self.end(End::Level, false))
-            }
-        }
+        Ok(())
     }
 
-    // What the peer asks once it is as far as this node is now.
-    fn level<H: Disk>(&self, site: &mut Site<'_, H>) -> Result<Option<Known>, Trouble>
+    // The peer asks the same.
+    fn agree<H: Disk>(
+        &mut self,
+        site: &mut Site<'_, H>,
+        response: &Response,
+    ) -> Result<Progress, Trouble>
     where
         H::File: LockFile,
     {
-        let Some(number) = self.number else {
-            return Ok(None);
-        };
-        Ok(Some(Known {
-            tag: site.tag()?,
-            question: site.question_of(number)?,
-        }))
+        self.note_number(site, response)?;
+        if response.head.tag == Some(site.tag()?) {
+            self.level = self.level_now(site)?;
+        }
+        Ok(self.end(End::Level, false))
     }
 
-    // Gives the peer the answer to a question that it has by its tag: the text of the tag, and the answer.
-    fn push<H: Disk>(
+    // The peer and this node are as far as each other, where that can be told by a tag.
+    fn level_now<H: Disk>(&self, site: &mut Site<'_, H>) -> Result<Option<Level>, Trouble>
+    where
+        H::File: LockFile,
+    {
+        match self.number {
+            Some(number) if self.knows_tags => Ok(Some(Level::of(site, number)?)),
+            _ => Ok(None),
+        }
+    }
+
+    // Notes a level that the peer knows, and the next one, where it may be that.
+    fn step_up(&mut self, level: Level, next: Option<Level>) {
+        match next {
+            Some(next) => {
+                self.level = Some(next);
+                self.earlier = Some(level);
+            }
+            None => self.level = Some(level),
+        }
+    }
+
+    // A peer that was level tells the tag of what it asks now.
+    fn check<H: Disk>(
         &mut self,
         site: &mut Site<'_, H>,
         destination: &Destination<'_>,
-        known: Known,
+        level: Level,
+        response: &Response,
+        now: Instant,
+    ) -> Result<Progress, Trouble>
+    where
+        H::File: LockFile,
+    {
+        self.note_number(site, response)?;
+        let own = site.tag()?;
+        let Some(theirs) = response.head.tag else {
+            return Err(Trouble::Ended);
+        };
+        if are_forked(&own, &theirs) {
+            return Ok(self.end(End::Forked, false));
+        }
+        if theirs == own {
+            self.level = if level.is_of(own) {
+                Some(level)
+            } else {
+                self.level_now(site)?
+            };
+            return Ok(self.end(End::Level, false));
+        }
+        self.catch_up(site, destination, level, theirs, now)?;
+        Ok(Progress::NONE)
+    }
+
+    // Gives the peer what came here since it was level, or asks it first for what came there.
+    fn catch_up<H: Disk>(
+        &mut self,
+        site: &mut Site<'_, H>,
+        destination: &Destination<'_>,
+        level: Level,
+        theirs: Tag,
         now: Instant,
     ) -> Result<(), Trouble>
     where
         H::File: LockFile,
     {
-        let answer = site.answer(&known.question)?;
-        let tag = known.tag;
-        let tag = format!(in self.alloc; "{tag}")?;
-        self.request(destination, Resource::Push, &[tag.as_bytes(), &answer], now)?;
-        self.step = Step::Pushing {
-            level: self.level(site)?,
+        let tag = site.tag()?;
+        let answer = if level.is_of(tag) {
+            None
+        } else {
+            Some(level.answer(site)?)
         };
+        match answer {
+            Some(answer) if level.is_of(theirs) => {
+                let next = self.level_now(site)?;
+                self.push(destination, &level, &answer, now)?;
+                self.step = Step::Pushing {
+                    level,
+                    next,
+                    brought: false,
+                };
+            }
+            answer => {
+                self.pull(site, destination, &level, now)?;
+                self.step = Step::Pulling { level, answer, tag };
+            }
+        }
         Ok(())
+    }
+
+    // Takes what came at the peer since it was level, and gives it what came here.
+    fn pulled<H: Disk>(
+        &mut self,
+        site: &mut Site<'_, H>,
+        destination: &Destination<'_>,
+        step: (Level, Option<Vec<u8>>, Tag),
+        response: &Response,
+        now: Instant,
+    ) -> Result<Progress, Trouble>
+    where
+        H::File: LockFile,
+    {
+        let (level, answer, tag) = step;
+        let is_all = site.tag()? == tag;
+        let brought = level.take(site, &response.body)? != 0;
+        let next = if is_all { self.level_now(site)? } else { None };
+        match answer {
+            None => {
+                self.step_up(level, next);
+                Ok(self.end(End::Done, brought))
+            }
+            Some(answer) => {
+                self.push(destination, &level, &answer, now)?;
+                self.step = Step::Pushing {
+                    level,
+                    next,
+                    brought,
+                };
+                Ok(Progress::NONE)
+            }
+        }
+    }
+
+    // Asks the peer for what came there since it was level: the tag, and the own number.
+    fn pull<H: Disk>(
+        &mut self,
+        site: &Site<'_, H>,
+        destination: &Destination<'_>,
+        level: &Level,
+        now: Instant,
+    ) -> Result<(), Trouble>
+    where
+        H::File: LockFile,
+    {
+        let tag = level.tag_text(self.alloc)?;
+        self.request(
+            destination,
+            Resource::Pull,
+            &[tag.as_bytes(), &[site.own()]],
+            now,
+        )
+    }
+
+    // Gives the peer what came here since it was level: the tag, and the answer.
+    fn push(
+        &mut self,
+        destination: &Destination<'_>,
+        level: &Level,
+        answer: &[u8],
+        now: Instant,
+    ) -> Result<(), Trouble> {
+        let tag = level.tag_text(self.alloc)?;
+        self.request(destination, Resource::Push, &[tag.as_bytes(), answer], now)
     }
 
     // Judges who asks, and goes on where one of the two lacks something.
@@ -280,7 +451,6 @@ impl Exchange {
     where
         H::File: LockFile,
     {
-        self.known = None;
         self.number = response.head.replica;
         let lacks = site.lacks(&response.body)?;
         if let Some(theirs) = response.head.tag {
@@ -304,7 +474,7 @@ impl Exchange {
         H::File: LockFile,
     {
         if !lacks.here && !lacks.there {
-            self.known = self.level(site)?;
+            self.level = self.level_now(site)?;
             return Ok(self.end(End::Level, false));
         }
         let theirs = if lacks.there { Some(theirs) } else { None };
@@ -330,7 +500,7 @@ impl Exchange {
         H::File: LockFile,
     {
         let Some(theirs) = theirs else {
-            self.known = self.level(site)?;
+            self.level = self.level_now(site)?;
             return Ok(self.end(End::Done, brought));
         };
         self.give(site, destination, &theirs, now)?;
@@ -360,7 +530,7 @@ impl Exchange {
             now,
         )?;
         self.step = Step::Giving {
-            level: self.level(site)?,
+            level: self.level_now(site)?,
         };
         Ok(())
     }
@@ -394,7 +564,9 @@ impl Exchange {
         }
         match self.step {
             Step::Resting => Ok(Progress::Closed),
-            Step::Asking if !self.channel.is_answered() => Ok(Progress::InVain),
+            Step::Asking | Step::Checking { .. } if !self.channel.is_answered() => {
+                Ok(Progress::InVain)
+            }
             _ => Err(trouble),
         }
     }

@@ -1,7 +1,7 @@
 //! The loop of a node: a site that runs. One process and one thread hold a document in its file, and serve it over
 //! HTTP, and meet other nodes over theirs. Read `words`, `addresses`, `secrets`; then `committed`, `logging`, `sockets`,
-//! `listeners`, `clients`, `table`; then `destinations`, `schedule`, `requests`, `troubles`, `channels`, `exchanges`,
-//! `peers`, `peer_table`; then `arrivals`, `turns`, `running`. A node that is called: `calling`; by a file that meets it,
+//! `listeners`, `clients`, `table`; then `destinations`, `schedule`, `requests`, `troubles`, `channels`, `levels`,
+//! `exchanges`, `peers`, `peer_table`; then `arrivals`, `turns`, `running`. A node that is called: `calling`; by a file that meets it,
 //! `visiting`; by a command, `asking`.
 #![tactic(auto)]
 
@@ -14,6 +14,7 @@ mod clients;
 mod committed;
 mod destinations;
 mod exchanges;
+mod levels;
 mod listeners;
 mod logging;
 mod peer_table;

@@ -33,12 +33,16 @@ const ENCODED: AsciiSet = ascii_set!(
 pub enum Resource {
     /// Its question: `GET /ask`.
     Ask,
+    /// The tag of that alone: `HEAD /ask`.
+    Tag,
     /// Its answer to a question: `POST /answer`.
     Answer,
     /// That it takes an answer to its question: `POST /take`.
     Take,
     /// The same, where the question is known by its tag: `POST /push`.
     Push,
+    /// Its answer to a question that is known by its tag: `POST /pull`.
+    Pull,
     /// That it edits its document as lines say: `POST /edits`.
     Edits,
     /// What stands at a path: `GET /value/PATH`.
@@ -56,21 +60,26 @@ impl Resource {
     fn has_body(self) -> bool {
         matches!(
             self,
-            Resource::Answer | Resource::Take | Resource::Push | Resource::Edits
+            Resource::Answer | Resource::Take | Resource::Push | Resource::Pull | Resource::Edits
         )
     }
 
     fn method(self) -> &'static [u8] {
-        if self.has_body() { b"POST" } else { b"GET" }
+        match self {
+            Resource::Tag => b"HEAD",
+            _ if self.has_body() => b"POST",
+            _ => b"GET",
+        }
     }
 
     // What its target is, or begins with, where a path stands behind that.
     fn front(self) -> &'static str {
         match self {
-            Resource::Ask => "/ask",
+            Resource::Ask | Resource::Tag => "/ask",
             Resource::Answer => "/answer",
             Resource::Take => "/take",
             Resource::Push => "/push",
+            Resource::Pull => "/pull",
             Resource::Edits => "/edits",
             Resource::Value => "/value/",
             Resource::Document => "/doc/",

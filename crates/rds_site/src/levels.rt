@@ -1,0 +1,63 @@
+//! What a node and a peer asked when they were level.
+use crate::troubles::Trouble;
+use rds_files::{Disk, LockFile};
+use rds_http::{Site, Tag};
+use std::alloc::{AllocError, Global};
+
+/// What a node and a peer asked when they were level: both that have one tag. What came since is told by that.
+#[derive(Drop)]
+pub struct Level {
+    tag: Tag,
+    own: Vec<u8>,
+    theirs: Vec<u8>,
+}
+
+impl Level {
+    /// A site as it is now, and a peer of this number that is as far.
+    pub fn of<H: Disk>(site: &mut Site<'_, H>, number: u8) -> Result<Level, Trouble>
+    where
+        H::File: LockFile,
+    {
+        Ok(Level {
+            tag: site.tag()?,
+            own: site.ask()?,
+            theirs: site.question_of(number)?,
+        })
+    }
+
+    /// Whether they had this tag.
+    pub fn is_of(&self, tag: Tag) -> bool {
+        self.tag == tag
+    }
+
+    /// The text of the tag.
+    pub fn tag_text(&self, alloc: Global) -> Result<String, AllocError> {
+        let tag = self.tag;
+        format!(in alloc; "{tag}")
+    }
+
+    /// The tags with which a peer has nothing for a site that has this one: that, and the one of the level.
+    pub fn tags(&self, alloc: Global, own: Tag) -> Result<String, AllocError> {
+        if self.is_of(own) {
+            return self.tag_text(alloc);
+        }
+        let tag = self.tag;
+        format!(in alloc; "{own}, {tag}")
+    }
+
+    /// What the site answers the peer's question.
+    pub fn answer<H: Disk>(&self, site: &Site<'_, H>) -> Result<Vec<u8>, Trouble>
+    where
+        H::File: LockFile,
+    {
+        Ok(site.answer(&self.theirs)?)
+    }
+
+    /// Has the site take what the peer answered its question, and tells how many components that brought.
+    pub fn take<H: Disk>(&self, site: &mut Site<'_, H>, answer: &[u8]) -> Result<u128, Trouble>
+    where
+        H::File: LockFile,
+    {
+        Ok(site.take(&self.own, answer)?)
+    }
+}
