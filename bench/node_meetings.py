@@ -1,5 +1,6 @@
 """What two nodes say to each other when they meet: nothing new, something new on one side, and two that are forked."""
 import contextlib
+import random
 import re
 import shutil
 import socket
@@ -11,6 +12,9 @@ from serving import HOST, LIMIT, TOKEN, running, soon, want
 # A meeting of two equal nodes may take so many bytes each way, and so many milliseconds of each one's processor.
 BYTES = 500
 WORK = 1.0
+# An edit at each of a hub and the nodes that name it may take so many bytes of one of these, both ways.
+MOST_SCATTERED = 6_000
+ELEMENTS = 10_000
 # So many such meetings are measured.
 MEETINGS = 20
 # So many lines are edited by a request: an unproved program takes some seconds for them, where 30 are the most.
@@ -43,11 +47,16 @@ class Relay:
             end.shutdown(socket.SHUT_WR)
 
     def requests(self):
-        """The targets of what was asked, in order, and the status of each answer; and forgets them."""
-        asked = re.findall(rb"(?:GET|HEAD|POST) (/\w+) HTTP/1\.1\r\n", bytes(self.asked))
+        """What was asked, in order, and the status of each answer; and forgets them. `tag` is the tag of /ask alone."""
+        asked = re.findall(rb"(GET|HEAD|POST) (/\w+) HTTP/1\.1\r\n", bytes(self.asked))
         told = re.findall(rb"HTTP/1\.1 (\d{3}) ", bytes(self.answered))
         self.forget()
-        return [f"{target.decode()} {status.decode()}" for target, status in zip(asked, told)]
+        names = ["tag" if method == b"HEAD" else target.decode() for method, target in asked]
+        return [f"{name} {status.decode()}" for name, status in zip(names, told)]
+
+    def is_quiet(self):
+        """Whether what was said last is that the peer has nothing new; and forgets it."""
+        return self.requests()[-1:] in (["/ask 304"], ["tag 304"])
 
     def forget(self):
         self.asked.clear()
@@ -60,15 +69,15 @@ def try_one_sided(make, asked, folder):
     relay = Relay(b.port)
     a.meets(relay.port, every=1)
     with running(b), running(a):
-        quiet = lambda: soon(lambda: relay.requests()[-1:] == ["/ask 304"], "two nodes don't come to rest", 10 * a.slow)
+        quiet = lambda: soon(relay.is_quiet, "two nodes don't come to rest", 10 * a.slow)
         quiet()
-        for here, steps in (a, ["/push 200"]), (b, ["/ask 200", "/pull 200"]):
+        for here, steps in (a, ["/push 200"]), (b, ["tag 200", "/pull 200"]):
             quiet()
             edit_at(here, f"only/{here.own}", here.own)
             soon(lambda: value_at(a, f"only/{here.own}") == value_at(b, f"only/{here.own}"), "an edit doesn't come", 10)
             ends = lambda: relay.answered.endswith(b"\r\n\r\n") and b" 304 " in relay.answered
             soon(ends, "two nodes don't come to rest", 10 * a.slow)
-            found = [step for step in relay.requests() if step != "/ask 304"]
+            found = [step for step in relay.requests() if step != "tag 304"]
             want(found == steps, f"where {here.own} alone has something the steps are {found}, and {steps} are due")
         quiet()
         edit_at(b, "both/b", "b")
@@ -77,9 +86,42 @@ def try_one_sided(make, asked, folder):
         soon(lambda: value_at(a, "both/a") == value_at(b, "both/a"), "an edit doesn't come", 10 * a.slow)
         want(a.document() == b.document(), "two nodes that have met differ")
         soon(lambda: relay.answered.endswith(b"\r\n\r\n") and b" 304 " in relay.answered, "two nodes don't come to rest", 10)
-        found, steps = [step for step in relay.requests() if step != "/ask 304"], ["/ask 200", "/pull 200", "/push 200"]
+        found, steps = [step for step in relay.requests() if step != "tag 304"], ["tag 200", "/pull 200", "/push 200"]
         want(found == steps, f"where both have something the steps are {found}, and {steps} are due")
     return "where one side alone has something, one step is made"
+
+
+def try_scattered(make, asked, folder):
+    """A hub and two nodes that name it, with many entries of which three in ten were deleted: what edits take."""
+    hub, *others = nodes = make(asked, folder, "abc", TOKEN)
+    chosen = random.Random(asked.seed)
+    dead = chosen.sample(range(ELEMENTS), ELEMENTS * 3 // 10)
+    lines = [f'["add","s{number % 100}",{number}]\n' for number in range(ELEMENTS)]
+    lines += [f'["del","s{number % 100}",{number}]\n' for number in dead]
+    hub.told("edit", "a.rds", given="".join(lines).encode())
+    relays = [Relay(hub.port) for _ in others]
+    for node, relay in zip(others, relays):
+        node.meets(relay.port, every=1)
+    with contextlib.ExitStack() as stack:
+        for node in nodes:
+            stack.enter_context(running(node))
+        level = lambda: len({node.status()["mark"] for node in nodes}) == 1
+        quiet = lambda: level() and all([relay.is_quiet() for relay in relays])
+        soon(quiet, "a hub and its nodes don't get equal", LIMIT * hub.slow, 1)
+        took = []
+        for round in range(len(nodes) + 1):
+            for relay in relays:
+                relay.forget()
+            edited = nodes if round == len(nodes) else [nodes[round]]
+            for node in edited:
+                edit_at(node, f"only/{node.own}", f"{round}")
+            soon(level, "a hub and its nodes don't get equal", 20 * hub.slow)
+            size = max(len(relay.asked) + len(relay.answered) for relay in relays)
+            steps = [step for relay in relays for step in relay.requests()]
+            want("/ask 200" not in steps, f"nodes that were level send questions: {steps}")
+            want(size <= MOST_SCATTERED, f"edits at {len(edited)} of {len(nodes)} nodes take {size} bytes")
+            took.append(size)
+    return f"of {ELEMENTS:,} elements, three in ten dead: an edit goes over in at most {max(took[:-1])} bytes both ways"
 
 
 def edit_at(node, path, value):
@@ -109,14 +151,14 @@ def try_idle(make, asked, folder):
         load(a, asked.entries)
         equal = lambda: a.status()["mark"] == b.status()["mark"]
         soon(equal, "two nodes don't get equal", LIMIT * a.slow)
-        soon(lambda: relay.requests()[-1:] == ["/ask 304"], "two equal nodes don't come to rest", 30 * a.slow, 1)
+        soon(relay.is_quiet, "two equal nodes don't come to rest", 30 * a.slow, 1)
         before, begun = [node.worked() for node in (a, b)], time.monotonic()
         relay.forget()
         time.sleep(MEETINGS * 1.0)
         work = [1000 * (node.worked() - worked) for node, worked in zip((a, b), before)]
         size, steps = (len(relay.asked), len(relay.answered)), relay.requests()
         count = len(steps)
-        want(set(steps) == {"/ask 304"}, f"two equal nodes make the steps {set(steps)}")
+        want(set(steps) <= {"tag 304", "/ask 304"}, f"two equal nodes make the steps {set(steps)}")
         want(count >= MEETINGS / 2, f"two equal nodes meet {count} times in {time.monotonic() - begun:.0f} s")
     told = f"{size[0] / count:.0f} and {size[1] / count:.0f} bytes, {work[0] / count:.2f} and {work[1] / count:.2f} ms"
     want(max(size) <= BYTES * count, f"a meeting of two equal nodes takes {told}")

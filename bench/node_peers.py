@@ -8,7 +8,7 @@ import threading
 import time
 
 from node_fakes import Fake, fakes_of
-from node_meetings import try_idle, try_one_sided, try_told_fork
+from node_meetings import try_idle, try_one_sided, try_scattered, try_told_fork
 from serving import HOST, LIMIT, TOKEN, Node, Noted, Wrong, are_equal, at, drive, running, soon, want
 
 # An edit that is told at once may take so many seconds, and one for which a peer asks by itself every second.
@@ -338,7 +338,7 @@ def meeting(part):
     return named
 
 
-MEETINGS = [meeting(part) for part in (try_one_sided, try_told_fork, try_idle)]
+MEETINGS = [meeting(part) for part in (try_one_sided, try_scattered, try_told_fork, try_idle)]
 PARTS = [try_both, try_one_way, try_ring, try_token, try_fork, *MEETINGS, try_gone, try_wrong]
 
 

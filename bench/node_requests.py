@@ -287,7 +287,7 @@ def judge_tagged(node):
     judge("a push of a question", push(tag + theirs), bad)
     for time in "first", "second":
         judge(f"the {time} push of a response", push(tag + response), '200 json {"taken":1}')
-    want(node.answer("GET", "/value/m/y").body == b"[8]\n", "what was pushed isn't there")
+    want(json.loads(node.answer("GET", "/value/m/y").body)["reg"] == [8], "what was pushed isn't there")
     answer, due = pull(tag + b"\1"), node.answer("POST", "/answer", theirs)
     is_due = answer.status == 200 and answer.headers["content-type"] == "application/octet-stream"
     want(is_due and answer.body == due.body, f"a pull is answered {answer}")

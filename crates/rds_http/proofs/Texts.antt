@@ -73,10 +73,10 @@ pub is_behind : (text start rest : List ℕ) → bytes_eq (take (length start) t
     → text ≡ start ++ rest
 is_behind text start rest begins is =
     sym (take-append-drop (length start) text)
-    ∙ ap (λ front. front ++ drop (length start) text) ((bytes_eq-Decides (take (length start) text) start).1 begins)
+    ∙ ap (λ front. front ++ drop (length start) text) ((bytes_eq-Decides (take (length start) text) start).0 begins)
     ∙ ap (λ r. start ++ r) (sym is)
 
 pub none_behind : (text start rest : List ℕ) → bytes_eq (take (length start) text) start ≡ false → text ≡ start ++ rest → ⊥
 none_behind text start rest other is =
     let begins : take (length start) text ≡ start = ap (take (length start)) is ∙ take-append_seam start rest in
-    absurd (cc ((bytes_eq-Decides (take (length start) text) start).0 begins, other))
+    absurd (cc ((bytes_eq-Decides (take (length start) text) start).1 begins, other))

@@ -11,7 +11,7 @@ use std::marker::Model;
 const MOST: usize = 64;
 
 /// A question of more bytes isn't kept.
-const LONGEST: usize = 1_048_576;
+pub const LONGEST_QUESTION: usize = 1_048_576;
 
 /// What this replica asked, and the tag of that.
 pub struct Asked {
@@ -80,7 +80,7 @@ impl Past {
     pub fn note(&mut self, tag: Tag, question: Vec<u8>) -> Result<(), AllocError>
         requires { HasTag question.items tag }
     {
-        if LONGEST < question.len() {
+        if LONGEST_QUESTION < question.len() {
             return Ok(());
         }
         if MOST <= self.asked.len() {

@@ -138,7 +138,9 @@ pub fn push<H: Disk>(
     ensures err { OnErr result (held.new ≡ held.old) }
 {
     match held.file.asked_at(body) {
-        Ok(Some((question, answer))) => take_texts(alloc, held, metrics, &question, answer, response),
+        Ok(Some((question, answer))) => take_texts(
+            alloc, held, metrics, &question, answer, response,
+        ),
         Ok(None) => refuse_tag(alloc, response),
         Err(fault) => refuse(alloc, fault, response),
     }

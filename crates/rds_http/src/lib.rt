@@ -26,6 +26,7 @@ mod touched;
 mod tracked;
 
 pub use access::Access;
+pub use asked::LONGEST_QUESTION;
 pub use metrics::PeerCounts;
 pub use rds_store::Lacks;
 pub use site::Site;

@@ -291,7 +291,7 @@ impl Exchange {
         H::File: LockFile,
     {
         match self.number {
-            Some(number) if self.knows_tags => Ok(Some(Level::of(site, number)?)),
+            Some(number) if self.knows_tags => Level::of(site, number),
             _ => Ok(None),
         }
     }

@@ -1,7 +1,7 @@
 //! What a node and a peer asked when they were level.
 use crate::troubles::Trouble;
 use rds_files::{Disk, LockFile};
-use rds_http::{Site, Tag};
+use rds_http::{LONGEST_QUESTION, Site, Tag};
 use std::alloc::{AllocError, Global};
 
 /// What a node and a peer asked when they were level: both that have one tag. What came since is told by that.
@@ -13,16 +13,20 @@ pub struct Level {
 }
 
 impl Level {
-    /// A site as it is now, and a peer of this number that is as far.
-    pub fn of<H: Disk>(site: &mut Site<'_, H>, number: u8) -> Result<Level, Trouble>
+    /// A site as it is now, and a peer of this number that is as far. None where their questions are too long to be kept.
+    pub fn of<H: Disk>(site: &mut Site<'_, H>, number: u8) -> Result<Option<Level>, Trouble>
     where
         H::File: LockFile,
     {
-        Ok(Level {
+        let own = site.ask()?;
+        if LONGEST_QUESTION < own.len() {
+            return Ok(None);
+        }
+        Ok(Some(Level {
             tag: site.tag()?,
-            own: site.ask()?,
+            own,
             theirs: site.question_of(number)?,
-        })
+        }))
     }
 
     /// Whether they had this tag.
