@@ -46,20 +46,30 @@ enum Step {
     Checking {
         level: Level,
     },
-    /// The peer is asked for what came since it was level, and is then given what came here since, which was all up to a
-    /// tag.
-    Pulling {
-        level: Level,
-        answer: Option<Vec<u8>>,
-        tag: Tag,
-    },
-    /// The peer is given what came here since it was level. Then it is as far as this node was, unless it was changed
-    /// meanwhile.
-    Pushing {
-        level: Level,
-        next: Option<Level>,
-        brought: bool,
-    },
+    /// The peer is asked for what came since it was level.
+    Pulling(Pull),
+    /// The peer is given what came here since it was level.
+    Pushing(Push),
+}
+
+/// What goes on once a peer has told what came since it was level.
+#[derive(Drop)]
+struct Pull {
+    level: Level,
+    /// What came here since, where something did.
+    answer: Option<Vec<u8>>,
+    /// The own tag then.
+    tag: Tag,
+}
+
+/// What is known once a peer has taken what came here since it was level.
+#[derive(Drop)]
+struct Push {
+    level: Level,
+    /// What both ask then, unless the peer was changed meanwhile.
+    next: Option<Level>,
+    /// Whether the peer had brought something before.
+    brought: bool,
 }
 
 /// What hearing a peer came to.
@@ -221,36 +231,41 @@ impl Exchange {
                 let brought = site.take(&own, &response.body)? != 0;
                 self.give_back(site, destination, theirs, brought, now)
             }
-            (Step::Pulling { level, answer, tag }, DONE) => {
-                self.pulled(site, destination, (level, answer, tag), &response, now)
+            (Step::Pulling(pull), DONE) => {
+                self.finish_pull(site, destination, pull, &response, now)
             }
             (Step::Giving { level }, DONE) => {
                 self.level = level;
                 Ok(self.end(End::Done, false))
             }
-            (
-                Step::Pushing {
-                    level,
-                    next,
-                    brought,
-                },
-                DONE,
-            ) => {
-                self.step_up(level, next);
-                Ok(self.end(End::Done, brought))
+            (Step::Pushing(push), DONE) => {
+                self.step_up(push.level, push.next);
+                Ok(self.end(End::Done, push.brought))
             }
-            (Step::Pulling { .. } | Step::Pushing { .. }, PRECONDITION_FAILED) => {
+            (Step::Pulling(_) | Step::Pushing(_), PRECONDITION_FAILED) => {
                 self.level = self.earlier.take();
-                self.begin(site, destination, now)?;
-                Ok(Progress::NONE)
+                self.begin_again(site, destination, now)
             }
-            (Step::Pulling { .. } | Step::Pushing { .. }, NOT_FOUND) => {
+            (Step::Pulling(_) | Step::Pushing(_), NOT_FOUND) => {
                 self.knows_tags = false;
-                self.begin(site, destination, now)?;
-                Ok(Progress::NONE)
+                self.begin_again(site, destination, now)
             }
             _ => Err(Trouble::Refused(response)),
         }
+    }
+
+    // Begins again, where the peer doesn't know what was asked by a tag.
+    fn begin_again<H: Disk>(
+        &mut self,
+        site: &mut Site<'_, H>,
+        destination: &Destination<'_>,
+        now: Instant,
+    ) -> Result<Progress, Trouble>
+    where
+        H::File: LockFile,
+    {
+        self.begin(site, destination, now)?;
+        Ok(Progress::NONE)
     }
 
     // Notes the peer's number. It may be this node's own replica, that runs elsewhere.
@@ -322,7 +337,8 @@ impl Exchange {
         self.note_number(site, response)?;
         let own = site.tag()?;
         let Some(theirs) = response.head.tag else {
-            return Err(Trouble::Ended);
+            self.knows_tags = false;
+            return self.begin_again(site, destination, now);
         };
         if are_forked(&own, &theirs) {
             return Ok(self.end(End::Forked, false));
@@ -361,33 +377,33 @@ impl Exchange {
             Some(answer) if level.is_of(theirs) => {
                 let next = self.level_now(site)?;
                 self.push(destination, &level, &answer, now)?;
-                self.step = Step::Pushing {
+                self.step = Step::Pushing(Push {
                     level,
                     next,
                     brought: false,
-                };
+                });
             }
             answer => {
                 self.pull(site, destination, &level, now)?;
-                self.step = Step::Pulling { level, answer, tag };
+                self.step = Step::Pulling(Pull { level, answer, tag });
             }
         }
         Ok(())
     }
 
     // Takes what came at the peer since it was level, and gives it what came here.
-    fn pulled<H: Disk>(
+    fn finish_pull<H: Disk>(
         &mut self,
         site: &mut Site<'_, H>,
         destination: &Destination<'_>,
-        step: (Level, Option<Vec<u8>>, Tag),
+        pull: Pull,
         response: &Response,
         now: Instant,
     ) -> Result<Progress, Trouble>
     where
         H::File: LockFile,
     {
-        let (level, answer, tag) = step;
+        let Pull { level, answer, tag } = pull;
         let is_all = site.tag()? == tag;
         let brought = level.take(site, &response.body)? != 0;
         let next = if is_all { self.level_now(site)? } else { None };
@@ -398,11 +414,11 @@ impl Exchange {
             }
             Some(answer) => {
                 self.push(destination, &level, &answer, now)?;
-                self.step = Step::Pushing {
+                self.step = Step::Pushing(Push {
                     level,
                     next,
                     brought,
-                };
+                });
                 Ok(Progress::NONE)
             }
         }
