@@ -3,15 +3,16 @@ ghost use Rattle.std.specs.Prelude.{◌≡◌, IfErr, IfOk, OnErr};
 ghost use Rattle.rds_offline.specs.Letters.{TakesResponse};
 ghost use Rattle.rds_store.specs.Meetings.{MayAnswer, MayAsk, MayTellLacks, RefusesTaking, TellsLevel};
 ghost use Rattle.rds_http.specs.Answers.{KeepsRest};
+ghost use Rattle.rds_http.specs.Changes.{MayAnswerAs};
 ghost use Rattle.rds_http.specs.Tags.{IsTagOf, RefusesTag};
 
 use crate::changing::take_answer;
 use crate::metrics::PeerCounts;
+use crate::pulling::respond_as;
 use crate::site::Site;
 use crate::tag::Tag;
 use rds_files::Disk;
 use rds_names::Fault;
-use rds_questions::{Question, encode_question};
 use rds_store::Lacks;
 
 impl<H: Disk> Site<'_, H> {
@@ -39,21 +40,18 @@ impl<H: Disk> Site<'_, H> {
         self.held.file.document().ask()
     }
 
-    /// The same of the replica of another number, where that has the same roster and has seen the same.
-    pub fn question_of(&self, number: u8) -> Result<Vec<u8>, Fault>
-        ensures { MayAsk (record self.now.document { own = number }) result }
-    {
-        let replica = self.held.file.document().replica();
-        let mut question = Question::of(self.alloc, replica)?;
-        question.hello.own = number;
-        encode_question(self.alloc, &question)
-    }
-
     /// What answers another replica's question, as [`Document::answer`](rds_store::Document::answer) does, and refuses.
     pub fn answer(&self, question: &[u8]) -> Result<Vec<u8>, Fault>
         ensures { MayAnswer question.now self.now.document result }
     {
         self.held.file.document().answer(question)
+    }
+
+    /// What answers the replica of a number as if it had asked a question of this replica's.
+    pub fn answer_as(&self, number: u8, question: &[u8]) -> Result<Vec<u8>, Fault>
+        ensures { MayAnswerAs number question.now self.now.document result }
+    {
+        respond_as(self.alloc, self.held.file.document(), number, question)
     }
 
     /// Takes what answers a question of this replica's, in memory, and tells how many components that brought, as

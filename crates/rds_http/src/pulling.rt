@@ -29,7 +29,7 @@ pub fn pull<H: Disk>(
 {
     match file.asked_at(body) {
         Ok(Some((question, rest))) => match lone_byte(rest) {
-            Some(number) => answer_as(alloc, file.document(), &question, number, response),
+            Some(number) => answer_as(alloc, file.document(), number, &question, response),
             None => refuse(alloc, Fault::Bad, response),
         },
         Ok(None) => refuse_tag(alloc, response),
@@ -52,25 +52,25 @@ fn lone_byte(bytes: &[u8]) -> Option<u8>
 fn answer_as(
     alloc: Global,
     document: &Document,
-    question: &[u8],
     number: u8,
+    question: &[u8],
     response: &mut Response,
 ) -> Result<(), AllocError>
     requires { IsBlank response.old }
     ensures { OnOk result (AnswersAs number question.now document.now response.new) }
 {
-    match respond_as(alloc, document, question, number) {
+    match respond_as(alloc, document, number, question) {
         Ok(bytes) => fill(response, StatusCode::OK, BYTES, bytes),
         Err(fault) => refuse(alloc, fault, response),
     }
 }
 
 /// What is responded where the replica of a number asks a question.
-fn respond_as(
+pub fn respond_as(
     alloc: Global,
     document: &Document,
-    question: &[u8],
     number: u8,
+    question: &[u8],
 ) -> Result<Vec<u8>, Fault>
     ensures { MayAnswerAs number question.now document.now result }
 {

@@ -4,12 +4,13 @@ use rds_files::{Disk, LockFile};
 use rds_http::{LONGEST_QUESTION, Site, Tag};
 use std::alloc::{AllocError, Global};
 
-/// What a node and a peer asked when they were level: both that have one tag. What came since is told by that.
+/// What a node asked when it was level with a peer: its question, and the tag of that. The peer asked the same then, but
+/// for its number. What came since goes over by the tag.
 #[derive(Drop)]
 pub struct Level {
     tag: Tag,
-    own: Vec<u8>,
-    theirs: Vec<u8>,
+    question: Vec<u8>,
+    number: u8,
 }
 
 impl Level {
@@ -18,14 +19,14 @@ impl Level {
     where
         H::File: LockFile,
     {
-        let own = site.ask()?;
-        if LONGEST_QUESTION < own.len() {
+        let question = site.ask()?;
+        if LONGEST_QUESTION < question.len() {
             return Ok(None);
         }
         Ok(Some(Level {
             tag: site.tag()?,
-            own,
-            theirs: site.question_of(number)?,
+            question,
+            number,
         }))
     }
 
@@ -49,12 +50,12 @@ impl Level {
         format!(in alloc; "{own}, {tag}")
     }
 
-    /// What the site answers the peer's question.
+    /// What the site answers what the peer asked.
     pub fn answer<H: Disk>(&self, site: &Site<'_, H>) -> Result<Vec<u8>, Trouble>
     where
         H::File: LockFile,
     {
-        Ok(site.answer(&self.theirs)?)
+        Ok(site.answer_as(self.number, &self.question)?)
     }
 
     /// Has the site take what the peer answered its question, and tells how many components that brought.
@@ -62,6 +63,6 @@ impl Level {
     where
         H::File: LockFile,
     {
-        Ok(site.take(&self.own, answer)?)
+        Ok(site.take(&self.question, answer)?)
     }
 }
