@@ -1,3 +1,4 @@
+mod Asking
 mod Changed
 mod NewsTexts
 mod Paths
