@@ -14,7 +14,7 @@ use Rattle.rds_http.specs.Refusals.{IsDenied, TellsFault}
 use Rattle.rds_http.specs.Site.{SiteValue}
 use Rattle.rds_http.specs.declared.access.Denied.{Denied}
 use Rattle.rds_http.specs.declared.routes.Post.{Post}
-use Rattle.rds_http.specs.declared.routes.Post.TheVariants.{Answer}
+use Rattle.rds_http.specs.declared.routes.Post.TheVariants.{Answer, Take}
 
 -- what follows from what holds where a call succeeds holds there
 pub on_ok : {T E : Type 0} (r : Result T E) {P Q : Type 0} → (P → Q) → OnOk r P → OnOk r Q
@@ -93,3 +93,11 @@ pub answers_question : (post : Post) (body : List ℕ) (old : SiteValue) (respon
     → post ≡ Answer → document ≡ old.document → AnswersQuestion body document response → DoesPost post body old response new
 answers_question post body old response new document is same answered =
     subst (λ p. DoesPost p body old response new) (sym is) (subst (λ d. AnswersQuestion body d response) same answered)
+
+-- what answers a question is taken into the document
+pub takes_posted : (post : Post) (body : List ℕ) (old : SiteValue) (response : Response) (new : SiteValue) (before after : ReplicaValue)
+    → post ≡ Take → before ≡ old.document → after ≡ new.document → AnswersTake body before after response
+    → DoesPost post body old response new
+takes_posted post body old response new before after is was now answered =
+    subst (λ p. DoesPost p body old response new) (sym is)
+    (subst (λ d. AnswersTake body d new.document response) was (subst (λ d. AnswersTake body before d response) now answered))
