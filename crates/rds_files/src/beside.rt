@@ -7,11 +7,13 @@ ghost use Rattle.rds_files.specs.Files.{IsTooLongOrLost, IsUnkept};
 
 use crate::disk::{Disk, note};
 use crate::locks::LockFile;
+use crate::standing::check_standing;
 use rds_codec::{Format, LIMIT, snapshot_length};
 use rds_dots::DotSet;
 use rds_keep::{Counted, Kept, Layout, Place, WasKept, keep_in};
 use rds_names::Fault;
 use rds_state::Replica;
+use std::alloc::Global;
 use std::fs::{OpenFile, OpenOptions};
 use std::io::{ErrorKind, Write};
 use std::os::unix::fs::OpenOptionsExt;
@@ -44,8 +46,8 @@ where
     keep_beside(rt, replica, name.as_str(), made)
 }
 
-/// Keeps the replica in the file of this path in place of what it holds, as `keep_new` does; FILE.new gets the mode of
-/// the old file before anything is written. The caller has the old file's lock.
+/// Keeps the replica in the file of this path in place of what it holds, as `keep_new` does; FILE.new gets the owner, the
+/// group and the mode of the old file before anything is written. The caller has the old file's lock.
 pub fn keep_over<H: Disk, S: DotSet>(
     rt: &H,
     replica: Replica<S>,
@@ -74,12 +76,13 @@ pub struct Renewed<S: DotSet> {
 
 /// Keeps the replica in the file of this path in place of what it holds, as `keep_over` does, and holds that file from
 /// then on: FILE.new is locked before it takes FILE's place, and is the file where it has done that, whatever the
-/// answer.
+/// answer. What stands at the path by now is judged first, as `check_standing` does.
 pub fn renew<H: Disk, S: DotSet>(
     rt: &H,
     replica: &Replica<S>,
     path: &str,
     file: &mut H::File,
+    length: Option<u64>,
 ) -> Result<Renewed<S>, Fault>
 where
     H::File: LockFile,
@@ -89,6 +92,9 @@ where
     ensures long { LIMIT < length (snapshot_text replica.now) → IfErr result IsTooLongOrLost }
 {
     let name = name_beside(rt, path)?;
+    if check_standing(rt, path, file, length).is_err() {
+        return Err(unkept(rt.alloc(), replica));
+    }
     match Beside::create_locked(rt, name.as_str(), path, file) {
         Ok(beside) => renew_in(rt, replica, beside, file),
         Err(error) => Err(unmade(rt, replica, name.as_str(), &error)),
@@ -176,14 +182,22 @@ fn keep_made<H: Disk, S: DotSet>(
     }
 }
 
-// Tells that FILE.new can't be made, and answers by which fault the replica isn't kept then: `TooLong` goes before
-// `Device`, and so does want of memory to find how long its text is.
+// Tells that FILE.new can't be made, and answers by which fault the replica isn't kept then.
 fn unmade<H: Disk, S: DotSet>(rt: &H, replica: &Replica<S>, name: &str, error: &io::Error) -> Fault
     ensures fault { IsUnkept replica.now result }
     ensures long { LIMIT < length (snapshot_text replica.now) → IsTooLongOrLost result }
 {
     note(rt, "cannot make", name, error);
-    match snapshot_length(rt.alloc(), replica) {
+    unkept(rt.alloc(), replica)
+}
+
+// By which fault a replica isn't kept that can't be written: `TooLong` goes before `Device`, and so does want of memory
+// to find how long its text is.
+fn unkept<S: DotSet>(alloc: Global, replica: &Replica<S>) -> Fault
+    ensures fault { IsUnkept replica.now result }
+    ensures long { LIMIT < length (snapshot_text replica.now) → IsTooLongOrLost result }
+{
+    match snapshot_length(alloc, replica) {
         Ok(length) if u128::from(LIMIT as u64) < length => Fault::TooLong,
         Ok(_) => Fault::Device,
         Err(fault) => fault,
@@ -262,7 +276,7 @@ impl<'a, H: Disk> Beside<'a, H>
 where
     H::File: LockFile,
 {
-    // With the mode of the old file. Until it has that, its owner alone may open it.
+    // With the owner, the group and the mode of the old file. Until it has these, its maker alone may open it.
     fn create_like(
         rt: &'a H,
         name: &'a str,
@@ -270,7 +284,7 @@ where
         old: &H::File,
     ) -> io::Result<Beside<'a, H>> {
         let beside = Beside::create(rt, name, path, OWNER_MODE)?;
-        beside.file.take_mode(old)?;
+        beside.file.take_rights(old)?;
         Ok(beside)
     }
 

@@ -14,6 +14,7 @@ use crate::holders::lock_file;
 use crate::lasting::make_last;
 use crate::locks::{LockFile, lock, lock_if_free};
 use crate::reading::{read_kept, read_now, read_to_last};
+use crate::standing::check_standing;
 use crate::targets::Target;
 use rds_dots::DotSet;
 use rds_keep::{Change, Changed, Kept, Layout, Stored, WasKept};
@@ -341,7 +342,7 @@ where
     H::File: LockFile,
 {
     /// Keeps this replica in the file in place of the one that it holds, and then lets the lock go: FILE.new is written
-    /// anew, with the mode of FILE, synced and renamed to FILE, and the folder is synced. A FILE.new that was left
+    /// anew, with the owner and mode of FILE, synced and renamed to FILE, and the folder is synced. A FILE.new that was left
     /// behind is removed first. Where FILE is a link, all that is done to the file that it led to when it was locked,
     /// and the link stays.
     ///
@@ -467,7 +468,8 @@ where
 
     /// Keeps this replica in the file as `keep` does, and holds the lock on. So the folder is synced once alone, and
     /// where nothing changed again there is nothing to sync. Where a call fails, the file is the next time written
-    /// anew.
+    /// anew. Where others put another file at the path meanwhile, or wrote to this one, that is `Device`, and what
+    /// stands there isn't touched.
     pub fn keep_on(
         &mut self,
         rt: &H,
@@ -483,6 +485,7 @@ where
             self.make_sure(rt)?;
             return Ok(());
         }
+        check_standing(rt, self.target.path(), &self.file, self.length())?;
         match self.append(rt, replica, &change) {
             Ok(Some((kept, layout))) => {
                 self.held = kept;
@@ -500,6 +503,15 @@ where
         }
     }
 
+    // How many bytes the file has, where that is known.
+    fn length(&self) -> Option<u64> {
+        let layout = self.layout;
+        match layout {
+            Some(layout) => Some(layout.length),
+            None => None,
+        }
+    }
+
     // Syncs what the file holds, and its folder, where that wasn't done since it was locked.
     fn make_sure(&mut self, rt: &H) -> Result<(), Fault>
         ensures same { self.new ≡ self.old }
@@ -513,7 +525,8 @@ where
     }
 
     /// Keeps this replica in the file in place of the one that it holds, as `replace` does, and holds the lock on:
-    /// FILE.new is locked before it is renamed.
+    /// FILE.new is locked before it is renamed. `Device` also where others put another file at the path meanwhile, or
+    /// wrote to this one.
     pub fn replace_on(&mut self, rt: &H, replica: &Replica<S>) -> Result<(), Fault>
         ensures kept { OnOk result (self.new ≡ record { path = self.old.path; kept = replica.now }) }
         ensures same { OnErr result (self.new ≡ self.old) }
@@ -521,9 +534,16 @@ where
         ensures limit { OnOk result (length (snapshot_text replica.now) ≤ LIMIT) }
         ensures long { LIMIT < length (snapshot_text replica.now) → IfErr result IsTooLongOrLost }
     {
+        let length = self.length();
         self.layout = None;
         self.lasts = false;
-        let Renewed { kept, layout } = renew(rt, replica, self.target.path(), &mut self.file)?;
+        let Renewed { kept, layout } = renew(
+            rt,
+            replica,
+            self.target.path(),
+            &mut self.file,
+            length,
+        )?;
         self.held = kept;
         self.layout = Some(layout);
         self.lasts = true;

@@ -5,8 +5,9 @@ ghost use Rattle.rds_names.specs.declared.fault.Fault.TheVariants.{Device};
 
 use crate::disk::{Disk, note};
 use rds_names::Fault;
-use std::fs::{File, OpenFile, TryLockError};
-use std::os::unix::fs::{FileExt, MetadataExt};
+use std::fs::{File, Metadata, OpenFile, TryLockError};
+use std::io::ErrorKind;
+use std::os::unix::fs::{FileExt, MetadataExt, fchown};
 use std::time::Duration;
 use std::{fs, io, thread};
 
@@ -15,6 +16,9 @@ const TRIES: u32 = 1_000;
 
 /// How many milliseconds a command waits between two tries.
 const PAUSE: u64 = 10;
+
+/// The bit of a mode that lets the group write.
+const GROUP_WRITES: u32 = 0o020;
 
 /// What a file does beside the calls of `OpenFile`, so that one command at a time changes it.
 pub trait LockFile {
@@ -34,8 +38,12 @@ pub trait LockFile {
     /// How many names it has. A folder has one.
     fn links(&self) -> io::Result<u64>;
 
-    /// Gives it the mode of another file.
-    fn take_mode(&self, other: &Self) -> io::Result<()>;
+    /// How many bytes it has.
+    fn length(&self) -> io::Result<u64>;
+
+    /// Gives it the owner, the group and the mode of another file. Where the owner can't be given, the group has to be,
+    /// and has to be one that may write it: who could write the other then can write this one.
+    fn take_rights(&self, other: &Self) -> io::Result<()>;
 
     /// Writes some of the bytes at this place, and tells how many. The file's position stays where it is.
     fn write_at(&self, at: u64, bytes: &[u8]) -> io::Result<usize>
@@ -66,12 +74,32 @@ impl LockFile for File {
         Ok(if about.is_dir() { 1 } else { about.nlink() })
     }
 
-    fn take_mode(&self, other: &File) -> io::Result<()> {
-        self.set_permissions(other.metadata()?.permissions())
+    fn length(&self) -> io::Result<u64> {
+        Ok(self.metadata()?.len())
+    }
+
+    fn take_rights(&self, other: &File) -> io::Result<()> {
+        let own = self.metadata()?;
+        let others = other.metadata()?;
+        if own.uid() != others.uid() || own.gid() != others.gid() {
+            take_owner(self, &others)?;
+        }
+        self.set_permissions(others.permissions())
     }
 
     fn write_at(&self, at: u64, bytes: &[u8]) -> io::Result<usize> {
         FileExt::write_at(self, bytes, at)
+    }
+}
+
+// Gives a file the owner and the group of another, or the group alone where that may write the other.
+fn take_owner(file: &File, other: &Metadata) -> io::Result<()> {
+    match fchown(file, Some(other.uid()), Some(other.gid())) {
+        Err(error)
+            if error.kind() == ErrorKind::PermissionDenied && other.mode() & GROUP_WRITES != 0 => {
+            fchown(file, None, Some(other.gid()))
+        }
+        given => given,
     }
 }
 

@@ -282,7 +282,12 @@ impl LockFile for DiskFile<'_> {
         })
     }
 
-    fn take_mode(&self, _other: &Self) -> io::Result<()> {
+    fn length(&self) -> io::Result<u64> {
+        self.calls.call("length", self.path.as_str())?;
+        Ok(self.rest.len() as u64)
+    }
+
+    fn take_rights(&self, _other: &Self) -> io::Result<()> {
         self.calls.call("mode", self.path.as_str())
     }
 

@@ -101,9 +101,14 @@ impl LockFile for WiredFile<'_> {
         self.file.links()
     }
 
-    fn take_mode(&self, other: &Self) -> io::Result<()> {
+    fn length(&self) -> io::Result<u64> {
+        self.call("length")?;
+        self.file.length()
+    }
+
+    fn take_rights(&self, other: &Self) -> io::Result<()> {
         self.call("mode")?;
-        self.file.take_mode(&other.file)
+        self.file.take_rights(&other.file)
     }
 
     fn write_at(&self, at: u64, bytes: &[u8]) -> io::Result<usize> {

@@ -1,0 +1,77 @@
+//! What stands at the path of a file that is held.
+ghost use Rattle.std.specs.Prelude.{◌≡◌, IfErr};
+ghost use Rattle.rds_names.specs.declared.fault.Fault.TheVariants.{Device};
+
+use crate::disk::{Disk, note};
+use crate::locks::LockFile;
+use crate::targets::Target;
+use rds_names::Fault;
+use std::fs::OpenOptions;
+use std::io::ErrorKind;
+use std::{fs, io};
+
+/// Refuses `Device` where another file stands at the path than the one that is held, or where that one hasn't the length
+/// that is known: what others put there isn't to be lost. Where nothing stands there, nothing would be. Standard error
+/// says why.
+pub fn check_standing<H: Disk>(
+    rt: &H,
+    path: &str,
+    held: &H::File,
+    length: Option<u64>,
+) -> Result<(), Fault>
+where
+    H::File: LockFile,
+    ensures fault { IfErr result (λ e. e ≡ Device) }
+{
+    match change_at(rt, path, held, length) {
+        Ok(None) => Ok(()),
+        Ok(Some(change)) => {
+            let _ = eprintln!(rt; "{path}: {change}, and is left as it is");
+            Err(Fault::Device)
+        }
+        Err(error) => {
+            note(rt, "cannot open", path, &error);
+            Err(Fault::Device)
+        }
+    }
+}
+
+// What others did to the file that is held.
+fn change_at<H: Disk>(
+    rt: &H,
+    path: &str,
+    held: &H::File,
+    length: Option<u64>,
+) -> io::Result<Option<&'static str>>
+where
+    H::File: LockFile,
+{
+    let there = match fs::open(rt, path) {
+        Ok(there) => there,
+        Err(error) if error.kind() == ErrorKind::NotFound => return Ok(None),
+        Err(error) => return Err(error),
+    };
+    if !there.is_same(held)? {
+        return Ok(Some("is another file by now"));
+    }
+    match length {
+        Some(length) if held.length()? != length => {
+            Ok(Some("was written to by something that takes no lock"))
+        }
+        _ => Ok(None),
+    }
+}
+
+/// Refuses `Device` where the file of this path can't be opened for writing, and says why on standard error.
+pub fn check_writing<H: Disk>(rt: &H, path: &str) -> Result<(), Fault>
+    ensures fault { IfErr result (λ e. e ≡ Device) }
+{
+    let target = Target::find(rt, path)?;
+    match OpenOptions::new().write(true).open(rt, target.path()) {
+        Ok(_file) => Ok(()),
+        Err(error) => {
+            note(rt, "cannot write", path, &error);
+            Err(Fault::Device)
+        }
+    }
+}
