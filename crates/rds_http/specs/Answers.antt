@@ -5,7 +5,7 @@ use Rattle.http.specs.declared.request.Request.{Request}
 use Rattle.http_server.specs.declared.response.Response.{Response}
 use Rattle.http_uri.specs.Uri.{uri_path}
 use Rattle.rds_http.specs.Access.{denial}
-use Rattle.rds_http.specs.Changes.{AnswersEdits, AnswersPull, AnswersPush, AnswersQuestion, AnswersTake}
+use Rattle.rds_http.specs.Changes.{AnswersEdits, AnswersGrowth, AnswersPull, AnswersPush, AnswersQuestion, AnswersTake}
 use Rattle.rds_http.specs.Handshakes.{AnswersHandshake, headers_of}
 use Rattle.rds_http.specs.Login.{AnswersLogin}
 use Rattle.rds_http.specs.Looks.{AnswersLook}
@@ -16,7 +16,7 @@ use Rattle.rds_http.specs.declared.access.Denied.{Denied}
 use Rattle.rds_http.specs.declared.routes.Asked.{Asked}
 use Rattle.rds_http.specs.declared.routes.Asked.TheVariants as Ask
 use Rattle.rds_http.specs.declared.routes.Post.{Post}
-use Rattle.rds_http.specs.declared.routes.Post.TheVariants.{Edits, Answer, Take, Push, Pull, Login}
+use Rattle.rds_http.specs.declared.routes.Post.TheVariants.{Edits, Grow, Answer, Take, Push, Pull, Login}
 
 -- what a request asks for, and the place that it names
 abbrev pub asked_in : Request (List ℕ) → Asked
@@ -28,6 +28,7 @@ place_in request = place_of (uri_path (head_of request).uri)
 -- what may change the document
 abbrev pub is_changing : Post → Bool
 is_changing Edits = true
+is_changing Grow = true
 is_changing Take = true
 is_changing Push = true
 is_changing Answer = false
@@ -49,6 +50,7 @@ pub record KeepsRest (old new : SiteValue) : Type 0 where
 -- what a body that is posted is answered, and what it makes of the document
 abbrev pub DoesPost : Post → List ℕ → SiteValue → Response → SiteValue → Type 0
 DoesPost Edits body old response new = AnswersEdits body old.document new.document response
+DoesPost Grow body old response new = AnswersGrowth body old.document new.document response
 DoesPost Take body old response new = AnswersTake body old.document new.document response
 DoesPost Push body old response new = AnswersPush body old.document new.document response
 DoesPost Answer body old response new = AnswersQuestion body old.document response
@@ -74,7 +76,7 @@ pub record Answers (old : SiteValue) (request : Request (List ℕ)) (response : 
   pub answered : AnswersBy (denial old.access (asked_in request) (headers_of request)) old request response new
   -- what is kept is never changed by a request, nor is anything but the document
   pub rest : KeepsRest old new
-  -- only an edit or a take that is done changes the document
+  -- only an edit, a growth or a take that is done changes the document
   pub refused : response.status ≢ 200 → new ≡ old
   pub looked : may_change (asked_in request) ≡ false → new ≡ old
   -- and who isn't let in changes nothing

@@ -1,20 +1,22 @@
 -- What requests make of a document.
-use Rattle.std.specs.Prelude.{◌≡◌, ◌≢◌, ◌⊎◌, ℕ, List, [], ◌∷◌, ◌++◌, codes, length, Result, Err, Ok}
+use Rattle.std.specs.Prelude.{◌≡◌, ◌≢◌, ◌⊎◌, ℕ, false, List, [], ◌∷◌, ◌++◌, codes, length, Result, Err, Ok}
 use Rattle.std.specs.Global.{Vec}
 use Rattle.std.specs.Int.{to_be_bytes, w32}
+use Rattle.std.specs.Str.{is_utf8}
 use Rattle.http_server.specs.declared.response.Response.{Response}
 use Rattle.rds_codec.specs.Decoding.{Decodes, IsTextOf}
 use Rattle.rds_lines.specs.Editing.{EditsLines, replies_text}
 use Rattle.rds_lines.specs.Lines.{lines_in}
 use Rattle.rds_names.specs.declared.fault.Fault.{Fault}
-use Rattle.rds_names.specs.declared.fault.Fault.TheVariants.{Bad, Cut, Memory}
+use Rattle.rds_names.specs.declared.fault.Fault.TheVariants.{Bad, BadName, Cut, Memory}
 use Rattle.rds_offline.specs.Letters.{TakesResponse}
 use Rattle.rds_output.specs.Reply.{reply_line}
 use Rattle.rds_output.specs.declared.reply.Reply.{Reply}
-use Rattle.rds_output.specs.declared.reply.Reply.TheVariants.{Taken}
+use Rattle.rds_output.specs.declared.reply.Reply.TheVariants.{Done, Taken}
 use Rattle.rds_questions.specs.Questions.{QuestionValue, question_kind}
 use Rattle.rds_questions.specs.Responding.{RespondGives}
 use Rattle.rds_state.specs.Fits.{ReplicaValue}
+use Rattle.rds_store.specs.Documents.{IsGrownBy, RefusesGrowth}
 use Rattle.rds_store.specs.Meetings.{MayAnswer, MayAsk, RefusesTaking, RespondsTo}
 use Rattle.rds_http.specs.Asked.{HasTag}
 use Rattle.rds_http.specs.Looks.{lines_of_json}
@@ -39,6 +41,24 @@ pub record Refuses (fault : Fault) (before after : ReplicaValue) (response : Res
 -- the same, unless memory ran out, which changes nothing
 abbrev pub AnswersEdits : List ℕ → ReplicaValue → ReplicaValue → Response → Type 0
 AnswersEdits body before after response = EditsBody body before after response ⊎ Refuses Memory before after response
+
+-- ---- growths
+
+-- why a name isn't put in a roster: the bytes are no text, and so no name; or the roster doesn't take it
+abbrev pub RefusesNewName : List ℕ → ReplicaValue → Fault → Type 0
+RefusesNewName body before fault =
+    ((is_utf8 body ≡ false) × (fault ≡ BadName)) ⊎ RefusesGrowth body before fault
+
+-- a name was put last in the roster, and that is told
+pub record GrowsRoster (name : List ℕ) (before after : ReplicaValue) (response : Response) : Type 0 where
+  pub grown : IsGrownBy name before after
+  pub told : Tells 200 json (reply_line Done) response
+
+-- the same by the name that a body is, or why the document doesn't take it
+abbrev pub AnswersGrowth : List ℕ → ReplicaValue → ReplicaValue → Response → Type 0
+AnswersGrowth body before after response =
+    GrowsRoster body before after response
+    ⊎ ((fault : Fault) × RefusesNewName body before fault × Refuses fault before after response)
 
 -- ---- takes
 

@@ -10,6 +10,8 @@ use Rattle.http_header.specs.HeaderMap.{Entries}
 use Rattle.http_server.specs.declared.response.Response.{Response}
 use Rattle.http_server.specs.Response.{IsResponse}
 use Rattle.percent_encoding.specs.Percent.{percent_decode}
+use Rattle.rds_codec.specs.FormatWriting.{EncodesTabled}
+use Rattle.rds_codec.specs.StateTexts.{snapshot_text}
 use Rattle.rds_lines.specs.Overview.{IsOverview}
 use Rattle.rds_listing.specs.Conflicts.{conflicts_text}
 use Rattle.rds_names.specs.AndThen.{◌>>=◌}
@@ -26,7 +28,8 @@ use Rattle.rds_http.specs.Tags.{IsTagOf, RefusesTag, is_known, state_tag, tag_te
 use Rattle.rds_http.specs.declared.metrics.PeerCounts.{PeerCounts}
 use Rattle.rds_http.specs.declared.routes.Look.{Look}
 use Rattle.rds_http.specs.declared.tag.Tag.{Tag}
-use Rattle.rds_http.specs.declared.routes.Look.TheVariants.{Page, View, Here, Value, Conflicts, Status, Metrics, Ask}
+use Rattle.rds_http.specs.declared.routes.Look.TheVariants.{Page, View, Here, Value, Conflicts, Status, Metrics}
+use Rattle.rds_http.specs.declared.routes.Look.TheVariants.{Ask, Snapshot}
 
 abbrev pub lines_of_json : List ℕ
 lines_of_json = codes "application/x-ndjson"
@@ -110,6 +113,13 @@ ShowsQuestion headers document response =
     × TellsQuestion (is_known headers (tag_text tag)) (tag_text tag) document response)
     ⊎ ((fault : Fault) × (MayAsk document (Err fault) ⊎ RefusesTag document fault) × TellsFault fault response)
 
+-- the document's snapshot is told, or why it has none
+abbrev pub ShowsSnapshot : ReplicaValue → Response → Type 0
+ShowsSnapshot document response =
+    ((bytes : Vec ℕ) × EncodesTabled (snapshot_text document) (Ok bytes)
+    × Tells 200 (codes "application/octet-stream") bytes.items response)
+    ⊎ ((fault : Fault) × EncodesTabled (snapshot_text document) (Err fault) × TellsFault fault response)
+
 -- the fields of the page
 abbrev pub page_fields : List Header
 page_fields =
@@ -133,3 +143,4 @@ AnswersLook Conflicts document place headers response =
 AnswersLook Status document place headers response = ShowsStatus document response
 AnswersLook Metrics document place headers response = response.status ≡ 200
 AnswersLook Ask document place headers response = ShowsQuestion headers document response
+AnswersLook Snapshot document place headers response = ShowsSnapshot document response

@@ -3,9 +3,9 @@ use Rattle.std.specs.Prelude.{ℕ, ◌+◌, Bool, true, false, ◌==◌, ◌||�
 use Rattle.std.specs.Prelude.{take, drop, Option, None, Some, if◌then◌else◌}
 use Rattle.std.specs.List.{prefix_len}
 use Rattle.rds_http.specs.declared.routes.Look.{Look}
-use Rattle.rds_http.specs.declared.routes.Look.TheVariants.{Page, View, Here, Value, Conflicts, Status, Metrics}
+use Rattle.rds_http.specs.declared.routes.Look.TheVariants.{Page, View, Here, Value, Conflicts, Status, Metrics, Snapshot}
 use Rattle.rds_http.specs.declared.routes.Look.TheVariants as Shown
-use Rattle.rds_http.specs.declared.routes.Post.TheVariants.{Edits, Answer, Take, Push, Pull, Login}
+use Rattle.rds_http.specs.declared.routes.Post.TheVariants.{Edits, Grow, Answer, Take, Push, Pull, Login}
 use Rattle.rds_http.specs.declared.routes.Resource.{Resource}
 use Rattle.rds_http.specs.declared.routes.Resource.TheVariants as Of
 use Rattle.rds_http.specs.declared.routes.Asked.{Asked}
@@ -28,12 +28,13 @@ look_named name =
 abbrev pub posted_named : List ℕ → Resource
 posted_named name =
     if bytes_eq name (codes "edits") then Of.Post Edits
+    else (if bytes_eq name (codes "grow") then Of.Post Grow
     else (if bytes_eq name (codes "answer") then Of.Post Answer
     else (if bytes_eq name (codes "take") then Of.Post Take
     else (if bytes_eq name (codes "push") then Of.Post Push
     else (if bytes_eq name (codes "pull") then Of.Post Pull
     else (if bytes_eq name (codes "login") then Of.Post Login
-    else Of.Unknown)))))
+    else Of.Unknown))))))
 
 -- what has this name, and no places
 abbrev pub lone_named : List ℕ → Resource
@@ -42,8 +43,9 @@ lone_named name =
     else (if bytes_eq name (codes "status") then Of.Look Status
     else (if bytes_eq name (codes "metrics") then Of.Look Metrics
     else (if bytes_eq name (codes "ask") then Of.Look Shown.Ask
+    else (if bytes_eq name (codes "snapshot") then Of.Look Snapshot
     else (if bytes_eq name (codes "live") then Of.Live
-    else posted_named name))))
+    else posted_named name)))))
 
 abbrev pub resource_with : Option Look → Bool → List ℕ → Resource
 resource_with (Some look) has_place name = Of.Look look

@@ -6,8 +6,17 @@ ghost use Rattle.rds_lines.specs.Editing.{EditsLines};
 ghost use Rattle.rds_lines.specs.Lines.{lines_in};
 ghost use Rattle.rds_names.specs.declared.fault.Fault.TheVariants.{Cut, Memory};
 ghost use Rattle.rds_offline.specs.Letters.{TakesResponse};
+ghost use Rattle.rds_store.specs.Documents.{IsGrownBy};
 ghost use Rattle.rds_store.specs.Meetings.{RefusesTaking};
-ghost use Rattle.rds_http.specs.Changes.{AnswersEdits, AnswersPush, AnswersTake, AnswersTexts, HoldsBoth};
+ghost use Rattle.rds_http.specs.Changes.{
+  AnswersEdits,
+  AnswersGrowth,
+  AnswersPush,
+  AnswersTake,
+  AnswersTexts,
+  HoldsBoth,
+  RefusesNewName,
+};
 ghost use Rattle.rds_http.specs.Lines.{is_short};
 ghost use Rattle.rds_http.specs.Site.{ChangesAreNoted, KeepsFile};
 ghost use Rattle.rds_http.specs.declared.lines.TheConstants.{LONGEST};
@@ -96,6 +105,52 @@ fn edit_in<H: Disk>(
     let replies = held.file.edit_lines(reader, lines)?;
     held.has_changed |= !are_refusals(&replies);
     Ok(replies)
+}
+
+/// Puts the name that a body is last in the roster, and answers that it is done.
+pub fn grow<H: Disk>(
+    alloc: Global,
+    held: &mut Held<'_, H>,
+    body: &[u8],
+    response: &mut Response,
+) -> Result<(), AllocError>
+    requires blank { IsBlank response.old }
+    requires noted { ChangesAreNoted held.old.has_changed held.old.file.document held.old.file.kept }
+    ensures answered { OnOk result (AnswersGrowth body.now held.old.file.document held.new.file.document response.new) }
+    ensures noted { ChangesAreNoted held.new.has_changed held.new.file.document held.new.file.kept }
+    ensures file { KeepsFile held.old.file held.new.file }
+    ensures refused { OnOk result (response.new.status ≢ 200 → held.new ≡ held.old) }
+    ensures err { OnErr result (held.new ≡ held.old) }
+{
+    make_room(response, 1)?;
+    add_field(response, CONTENT_TYPE, JSON)?;
+    match grow_in(held, body) {
+        Ok(()) => {
+            put_lines(&mut response.body, &[Reply::Done]);
+            Ok(())
+        }
+        Err(fault) => {
+            response.clear();
+            refuse(alloc, fault, response)
+        }
+    }
+}
+
+/// Puts the name that bytes are last in the roster, and notes that. Bytes that are no UTF-8 are no name (`BadName`).
+fn grow_in<H: Disk>(held: &mut Held<'_, H>, bytes: &[u8]) -> Result<(), Fault>
+    requires noted { ChangesAreNoted held.old.has_changed held.old.file.document held.old.file.kept }
+    ensures grown { OnOk result (IsGrownBy bytes.now held.old.file.document held.new.file.document) }
+    ensures fault { IfErr result (RefusesNewName bytes.now held.old.file.document) }
+    ensures noted { ChangesAreNoted held.new.has_changed held.new.file.document held.new.file.kept }
+    ensures file { KeepsFile held.old.file held.new.file }
+    ensures err { OnErr result (held.new ≡ held.old) }
+{
+    let Ok(name) = str::from_utf8(bytes) else {
+        return Err(Fault::BadName);
+    };
+    held.file.grow(name)?;
+    held.has_changed = true;
+    Ok(())
 }
 
 /// Takes what answers a question of this replica's, both in the body, and answers how many components that brought.

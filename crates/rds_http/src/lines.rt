@@ -14,7 +14,7 @@ use http_server::Rope;
 use rds_names::{Fault, Name};
 use rds_output::{Digits, Reply};
 
-/// No line that answers an edit or a take has more bytes.
+/// No line that answers an edit, a growth or a take has more bytes.
 pub const LONGEST: usize = 128;
 
 /// No number has more digits.
@@ -53,6 +53,7 @@ fn put_line(body: &mut Rope, reply: &Reply)
     ensures room { body.old.spare ≤ body.new.spare + LONGEST }
 {
     match reply {
+        Reply::Done => put(body, b"{\"ok\":true}\n"),
         Reply::Edited { dot, killed } => match dot {
             Some((name, seq)) => put_dot(body, *name, *seq, *killed),
             None => put_numbered(body, b"{\"dot\":null,\"killed\":", u128::from(*killed)),

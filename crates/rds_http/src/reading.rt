@@ -16,6 +16,7 @@ ghost use Rattle.rds_http.specs.Looks.{
   MayShow,
   Shows,
   ShowsQuestion,
+  ShowsSnapshot,
   ShowsStatus,
   ShowsValue,
   lines_of_json,
@@ -74,6 +75,7 @@ pub fn look<H: Disk>(
         Look::Status => show_status(alloc, file.document(), metrics.peers, response),
         Look::Metrics => show_metrics(alloc, file.document(), metrics, response),
         Look::Ask => show_question(alloc, file, headers, response),
+        Look::Snapshot => show_snapshot(alloc, file.document(), response),
     }
 }
 
@@ -149,6 +151,21 @@ fn add_own(alloc: Global, document: &Document, response: &mut Response) -> Resul
         return Err(AllocError);
     };
     response.add_header(HeaderName::from_static("rds-replica"), value)
+}
+
+/// Answers with the document's snapshot.
+fn show_snapshot(
+    alloc: Global,
+    document: &Document,
+    response: &mut Response,
+) -> Result<(), AllocError>
+    requires { IsBlank response.old }
+    ensures { OnOk result (ShowsSnapshot document.now response.new) }
+{
+    match document.snapshot() {
+        Ok(bytes) => fill(response, StatusCode::OK, BYTES, bytes),
+        Err(fault) => refuse(alloc, fault, response),
+    }
 }
 
 /// Answers with what the document shows at a place.

@@ -33,6 +33,8 @@ pub enum Look {
     Metrics,
     /// What asks another replica for what the document lacks.
     Ask,
+    /// The document's snapshot, which is a file of its replica.
+    Snapshot,
 }
 
 /// What may be posted.
@@ -40,6 +42,8 @@ pub enum Look {
 pub enum Post {
     /// Lines that edit the document.
     Edits,
+    /// A name that is new in the roster.
+    Grow,
     /// A question that another replica asks.
     Answer,
     /// What answers a question of this replica's.
@@ -198,6 +202,8 @@ fn lone_named(name: &[u8]) -> Resource
         Resource::Look(Look::Metrics)
     } else if name == b"ask".as_slice() {
         Resource::Look(Look::Ask)
+    } else if name == b"snapshot".as_slice() {
+        Resource::Look(Look::Snapshot)
     } else if name == b"live".as_slice() {
         Resource::Live
     } else {
@@ -211,6 +217,8 @@ fn posted_named(name: &[u8]) -> Resource
 {
     if name == b"edits".as_slice() {
         Resource::Post(Post::Edits)
+    } else if name == b"grow".as_slice() {
+        Resource::Post(Post::Grow)
     } else if name == b"answer".as_slice() {
         Resource::Post(Post::Answer)
     } else if name == b"take".as_slice() {

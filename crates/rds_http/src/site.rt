@@ -6,7 +6,7 @@ ghost use Rattle.rds_http.specs.Answers.{Does, DoesPost, KeepsRest, is_changing,
 ghost use Rattle.rds_http.specs.Site.{after_keep};
 
 use crate::access::Access;
-use crate::changing::{Held, edit, push, take};
+use crate::changing::{Held, edit, grow, push, take};
 use crate::live::upgrade;
 use crate::login::log_in;
 use crate::metrics::Metrics;
@@ -208,6 +208,7 @@ impl<H: Disk> Site<'_, H> {
                 body,
                 response,
             ),
+            Post::Grow => grow(alloc, &mut self.held, body, response),
             Post::Take => take(alloc, &mut self.held, &mut self.metrics, body, response),
             Post::Push => push(alloc, &mut self.held, &mut self.metrics, body, response),
             Post::Pull => pull(alloc, &mut self.held.file, body, response),

@@ -5,6 +5,7 @@ ghost use Rattle.rds_lines.specs.Editing.{EditsLines};
 ghost use Rattle.rds_lines.specs.Lines.{lines_in};
 ghost use Rattle.rds_names.specs.declared.fault.Fault.TheVariants.{Memory};
 ghost use Rattle.rds_offline.specs.Letters.{TakesResponse};
+ghost use Rattle.rds_store.specs.Documents.{IsGrownBy, RefusesGrowth};
 ghost use Rattle.rds_store.specs.Meetings.{RefusesTaking};
 ghost use Rattle.rds_http.specs.Changes.{IsOfAsked, IsOfOther, RefusesAsking};
 ghost use Rattle.rds_http.specs.Site.{KeepsFile};
@@ -158,6 +159,17 @@ impl<'a, H: Disk> Tracked<'a, H> {
         ensures err { OnErr result (self.new ≡ self.old) }
     {
         edit_lines(self.alloc, reader, self, lines)
+    }
+
+    /// Puts a name last in the roster, as [`Document::grow`] does. No path shows the roster, so none is touched.
+    pub fn grow(&mut self, name: &str) -> Result<(), Fault>
+        ensures grown { OnOk result (IsGrownBy name.now self.old.document self.new.document) }
+        ensures fault { IfErr result (RefusesGrowth name.now self.old.document) }
+        ensures file { KeepsFile self.old self.new }
+        ensures err { OnErr result (self.new ≡ self.old) }
+    {
+        self.tag = None;
+        self.file.grow(name)
     }
 
     /// Takes what answers a question of this replica's.

@@ -45,6 +45,8 @@ pub enum Resource {
     Pull,
     /// That it edits its document as lines say: `POST /edits`.
     Edits,
+    /// That it puts a name last in its roster: `POST /grow`.
+    Grow,
     /// What stands at a path: `GET /value/PATH`.
     Value,
     /// The document at a path: `GET /doc/PATH`.
@@ -53,6 +55,8 @@ pub enum Resource {
     Conflicts,
     /// Whose replica it has, and how much there is of it: `GET /status`.
     Status,
+    /// The document's snapshot: `GET /snapshot`.
+    Snapshot,
 }
 
 impl Resource {
@@ -60,7 +64,12 @@ impl Resource {
     fn has_body(self) -> bool {
         matches!(
             self,
-            Resource::Answer | Resource::Take | Resource::Push | Resource::Pull | Resource::Edits
+            Resource::Answer
+                | Resource::Take
+                | Resource::Push
+                | Resource::Pull
+                | Resource::Edits
+                | Resource::Grow
         )
     }
 
@@ -81,10 +90,12 @@ impl Resource {
             Resource::Push => "/push",
             Resource::Pull => "/pull",
             Resource::Edits => "/edits",
+            Resource::Grow => "/grow",
             Resource::Value => "/value/",
             Resource::Document => "/doc/",
             Resource::Conflicts => "/conflicts/",
             Resource::Status => "/status",
+            Resource::Snapshot => "/snapshot",
         }
     }
 
