@@ -1,9 +1,11 @@
 """Commands that name a node in place of a file: they answer what the same command answers of a file."""
+import json
 import os
 import subprocess
 
-from node_fakes import Fake, response, says
+from node_fakes import Fake, by_target, response, says
 from node_visits import at, nodes_of
+from plain_model import State, begun, change_text, read_file, record, snapshot_text
 from serving import HOST, LIMIT, TOKEN, running, want
 
 # Each is done on a file that nobody holds and at a node whose file is the same: words behind the program, with the
@@ -53,6 +55,14 @@ SAME = [
     (["show"], [], b""),
     (["clear"], [], b""),
     (["show"], [], b""),
+]
+
+# Names that a file and a node of the group a, b, c are given: where one is refused, none is put in.
+GROWTHS = [["d"], ["e", "f"], ["d"], ["a"], ["d", "g"], ["C"], ["C", "g"], [""], ["g" * 17], ["g" * 16], []]
+# New files and their replicas, which are made of a file and of a node.
+NEW = [
+    ("d.rds", "d"), ("d.rds", "d"), ("d.rds", "e"), ("e.rds", "e"), ("x.rds", "a"), ("x.rds", "b"), ("x.rds", "van"),
+    ("x.rds", "C"), ("x.rds", ""), ("d.rds", "C"), ("d.rds", "van"), ("x.new", "f"), ("none/x.rds", "f"), (".", "f"),
 ]
 
 
@@ -118,6 +128,41 @@ def try_letters(asked, folder):
     return "questions and answers go by files"
 
 
+def try_joins(asked, folder):
+    """Names are put into the group of a node, and files of new replicas are made of it, as of a file."""
+    node, file, other = nodes_of(asked, folder, ["a", "a2", "b"])
+    other.told("set", "a.rds", "z", "2")
+    for each in node, file:
+        each.told("edit", "a.rds", given=b'["set","x/y",1]\n["set","x/y",2]\n["inc","n",10]\n')
+        (each.folder / "b.rds").write_bytes((other.folder / "a.rds").read_bytes())
+        each.told("merge", "a.rds", "b.rds")
+    with running(node):
+        place = at(node.port)
+        for names in GROWTHS:
+            here, there = command(file, ["grow"], "a.rds", names), command(node, ["grow"], place, names)
+            want(there[:2] == here[:2], f"'grow {names}' at a node comes to {there}, and of a file to {here}")
+        comes_to(node, ["grow"], place, ["north", "d", "south"], 1, b"fault 6: BadRoster\n", "north")
+        file.told("grow", "a.rds", "north")
+        names, due = node.status()["names"], json.loads(file.told("status", "a.rds"))["names"]
+        want(names == due == [*"abcdef", "g" * 16, "north"], f"a node's names are {names}, and a file's {due}")
+        held = read_file((file.folder / "a.rds").read_bytes()).replica
+        for new, own in NEW:
+            here = command(file, ["init", new, "--from"], "a.rds", [own])
+            there = command(node, ["init", new, "--from"], place, [own])
+            want(there[:2] == here[:2], f"'init {new} --from' a node {own} comes to {there}, and of a file to {here}")
+            is_due = here[0] or (node.folder / new).read_bytes() == snapshot_text(begun(held, own))
+            want(is_due, f"'init {new} --from' a node {own} makes another file than is due")
+        made = {each.name for each in node.folder.iterdir()} - {each.name for each in file.folder.iterdir()}
+        want(made <= {"a.rds.node", "errors"}, f"a node's growth and its new replicas leave {made}")
+        hint = f"'van' is no name of the group: 'grow {place} van' adds it\n"
+        comes_to(node, ["init", "x.rds", "--from"], place, ["van"], 1, b"fault 26: NoSuch\n", hint)
+        node.told("set", "d.rds", "from/d", "3")
+        comes_to(node, ["sync"], "d.rds", [place], 0, b'{"taken":0}\n')
+        comes_to(node, ["get"], place, ["from/d", "--raw"], 0, b"3\n")
+        comes_to(node, ["init", "x.rds", "--from"], place, ["d"], 1, b"fault 21: SameReplica\n")
+    return "names are put in, and new replicas made, as of a file"
+
+
 def try_conflicts(asked, folder):
     """Conflicts are listed with status 3."""
     node, other = nodes_of(asked, folder, "ab")
@@ -133,6 +178,10 @@ def try_conflicts(asked, folder):
     return "conflicts are listed"
 
 
+# What a new replica is made by.
+JOINS = (["grow"], ["d"]), (["init", "c.rds", "--from"], ["c"])
+
+
 def try_tokens(asked, folder):
     """A node that asks for a token."""
     node, _ = nodes_of(asked, folder, "ab", TOKEN)
@@ -140,13 +189,15 @@ def try_tokens(asked, folder):
     (node.folder / "short").write_text("x")
     with running(node):
         place = at(node.port)
-        for words, rest in (["get"], ["x"]), (["set"], ["x", "1"]):
+        for words, rest in (["get"], ["x"]), (["set"], ["x", "1"]), *JOINS:
             comes_to(node, words, place, rest, 1, b"fault 23: PeerEnded\n", "refused: 401: the token is due\n")
             comes_to(node, words, place, rest, 1, b"fault 23: PeerEnded\n", "refused: 401", token="wrong")
             comes_to(node, words, place, rest, 2, b"fault 27: Usage\n", "short holds no token", token="short")
             comes_to(node, words, place, rest, 1, b"fault 24: Device\n", "cannot read none", token="none")
         comes_to(node, ["set"], place, ["x", "1"], 0, b'{"dot":["a",1],"killed":0}\n', token="token")
         comes_to(node, ["get"], place, ["x"], 0, b'{"counter":null,"reg":[1],"set":[]}\n', token="token")
+        for words, rest in JOINS:
+            comes_to(node, words, place, rest, 0, b'{"ok":true}\n', token="token")
     return "a node's token is due"
 
 
@@ -154,8 +205,10 @@ def try_none(asked, folder):
     """What is no node, and a node that isn't there."""
     node, _ = nodes_of(asked, folder, "ab")
     for place in "", "/", "h", "h:", "h:0", "h:1/x", "u@h:1":
-        comes_to(node, ["get"], f"http://{place}", ["x"], 2, b"fault 27: Usage\n", "is no host and port")
-    comes_to(node, ["set"], at(node.port), ["x", "1"], 1, b"fault 24: Device\n", "Connection refused")
+        for words, rest in (["get"], ["x"]), *JOINS:
+            comes_to(node, words, f"http://{place}", rest, 2, b"fault 27: Usage\n", "is no host and port")
+    for words, rest in (["set"], ["x", "1"]), *JOINS:
+        comes_to(node, words, at(node.port), rest, 1, b"fault 24: Device\n", "Connection refused")
     known = response(b'{"fault":16,"name":"TooManyDots"}', status=b"400 Bad Request")
     ahead = response(b'{"fault":10,"name":"OwnAhead"}', status=b"409 Conflict")
     wordless = response(b"no", status=b"503 Service Unavailable")
@@ -170,11 +223,28 @@ def try_none(asked, folder):
         (b"no HTTP\r\n\r\n", b"fault 22: OutOfTurn\n", "is no HTTP/1.1"),
     ):
         with Fake(says(answer)) as fake:
-            comes_to(node, ["set"], at(fake.port), ["x", "1"], 1, due, note)
+            for words, rest in (["set"], ["x", "1"]), *JOINS:
+                comes_to(node, words, at(fake.port), rest, 1, due, note)
     return "what is no node is refused"
 
 
-PARTS = [try_same, try_letters, try_conflicts, try_tokens, try_none]
+def try_wrong_snapshots(asked, folder):
+    """What gives no snapshot, of which no file is made, and what gives one."""
+    node, _ = nodes_of(asked, folder, "ab")
+    snapshot = (node.folder / "a.rds").read_bytes()
+    more = record(change_text(0, State()))
+    for body in b"", b"RDS2", b'{"ok":true}\n', snapshot[:-1], snapshot + b"x", snapshot + more:
+        with Fake(says(response(body))) as fake:
+            found = command(node, ["init", "c.rds", "--from"], at(fake.port), ["c"])
+        is_due = found[0] == 1 and found[1].startswith(b"fault ") and found[2]
+        want(is_due, f"'init --from' of what gives {body} comes to {found}")
+        want(not (node.folder / "c.rds").exists(), f"a file is made of {body}")
+    with Fake(by_target(snapshot=response(snapshot))) as fake:
+        comes_to(node, ["init", "c.rds", "--from"], at(fake.port), ["c"], 0, b'{"ok":true}\n')
+    return "what is no snapshot is refused"
+
+
+PARTS = [try_same, try_letters, try_joins, try_conflicts, try_tokens, try_none, try_wrong_snapshots]
 
 
 def try_commands(asked, folder):

@@ -195,6 +195,38 @@ def try_token(asked, folder):
     return f"another token is refused, and the right one lets in after {took:.1f} s"
 
 
+def try_join(asked, folder):
+    """A replica joins two nodes that meet: the one takes its name, and it is made of the other."""
+    a, b = nodes_of(asked, folder, "ab")
+    new = Node(asked.program, folder / "d", own="d", names="d")
+    new.slow = asked.slow
+    (new.folder / "a.rds").unlink()
+    a.meets(b.port, every=1)
+    new.meets(b.port, every=1)
+    with all_running(a, b):
+        are_met(a, 1)
+        put(a, 1)
+        put(b, 2)
+        are_equal([a, b])
+        mark = a.status()["mark"]
+        new.told("grow", f"http://{HOST}:{a.port}", "d")
+        names = lambda node: node.status()["names"]
+        took = soon(lambda: names(b) == [*"abcd"], "a name isn't known at a peer", AT_ONCE * a.slow, 0.002)
+        marks = [node.status()["mark"] for node in (a, b)]
+        want(marks == [mark] * 2, f"two nodes that learn a name have the marks {marks}, where {mark} is due")
+        new.told("init", "a.rds", "--from", f"http://{HOST}:{b.port}", "d")
+        with running(new):
+            for number, node in (3, new), (4, a), (5, b):
+                put(node, number)
+            document = are_equal([a, b, new])[1]
+            due = {f"n{number}": [number] for number in range(1, 6)}
+            want(document["maps"]["k"]["regs"] == due, f"two nodes and a new one have {document}")
+            want(names(new) == names(a) == [*"abcd"], f"a new node has the names {names(new)}")
+            tells(a, b.port, ["met"])
+            tells(new, b.port, ["met"])
+    return f"a new name gets to a peer in {took * 1000:.0f} ms, and its node meets the others"
+
+
 def change_token(node, token):
     node.token = token
     (node.folder / "token").write_text(f"{token}\n")
@@ -339,7 +371,7 @@ def meeting(part):
 
 
 MEETINGS = [meeting(part) for part in (try_one_sided, try_scattered, try_told_fork, try_idle)]
-PARTS = [try_both, try_one_way, try_ring, try_token, try_fork, *MEETINGS, try_gone, try_wrong]
+PARTS = [try_both, try_one_way, try_ring, try_token, try_join, try_fork, *MEETINGS, try_gone, try_wrong]
 
 
 def try_peers(asked, folder):

@@ -10,7 +10,8 @@ import struct
 import subprocess
 import time
 
-from serving import LIMIT, TOKEN, UPGRADE, Node, Noted, running, soon, want
+from plain_model import Replica, State, appended, change_text, edited, grown, mark_of, read_file, snapshot_text, tag_of
+from serving import LIMIT, TOKEN, UPGRADE, Node, Noted, killed, running, soon, want
 
 # A request, and below it the status, the kind of content and the body that are due. '|' ends a line of a body, and
 # '..' is anything.
@@ -57,6 +58,8 @@ HEAD /doc
   200 json
 HEAD /ask
   200 octet-stream
+HEAD /snapshot
+  200 octet-stream
 HEAD /nothing
   404 json
 GET /nothing
@@ -71,6 +74,16 @@ DELETE /live
   405 json {"status":405,"text":".."}
 POST /ask x
   405 json {"status":405,"text":".."}
+POST /snapshot x
+  405 json {"status":405,"text":".."}
+GET /snapshot/x
+  404 json {"status":404,"text":"no such resource"}
+GET /grow
+  405 json {"status":405,"text":".."}
+HEAD /grow
+  405 json
+POST /grow/c c
+  404 json {"status":404,"text":"no such resource"}
 POST /answer oops
   400 json {"fault":13,"name":"Bad","text":".."}
 POST /take oops
@@ -88,16 +101,22 @@ MAY_COME = """
 403 GET /doc | Host: example.org
 403 GET /doc | Host: example.org:PORT
 403 GET /ask | Host: example.org:PORT
+403 GET /snapshot | Host: example.org:PORT
 403 GET / | Host: example.org:PORT
 403 POST /edits | Host: example.org:PORT
+403 POST /grow | Host: example.org:PORT
 200 GET /doc | Origin: http://example.org
+200 GET /snapshot | Origin: http://example.org
 200 POST /edits | Origin: http://127.0.0.1:PORT
+400 POST /grow | Origin: http://127.0.0.1:PORT
 200 POST /edits | Origin: https://localhost:PORT | Host: localhost:PORT
 403 POST /edits | Origin: http://localhost:PORT
 403 POST /edits | Origin: http://example.org
 403 POST /edits | Origin: null
 403 POST /edits | Origin:
 403 POST /take | Origin: http://127.0.0.1
+403 POST /grow | Origin: http://example.org
+403 POST /grow | Origin: null
 403 GET /live | Origin: http://example.org:PORT | UPGRADE
 """
 MAY_COME_WITH_TOKEN = """
@@ -105,6 +124,9 @@ MAY_COME_WITH_TOKEN = """
 401 GET /doc | Cookie: a=b
 401 HEAD /status | Cookie: a=b
 401 GET /ask | Cookie: a=b
+401 GET /snapshot | Cookie: a=b
+401 HEAD /snapshot | Cookie: a=b
+401 POST /grow | Cookie: a=b
 401 GET /nothing | Cookie: a=b
 401 POST /edits | Cookie: a=b
 401 POST /edits | Cookie: rds_PORT=
@@ -117,7 +139,10 @@ MAY_COME_WITH_TOKEN = """
 401 GET /live | Cookie: a=b | UPGRADE
 403 POST /edits | Authorization: Bearer TOKEN | Origin: http://example.org
 403 POST /login | Origin: http://example.org
+403 POST /grow | Authorization: Bearer TOKEN | Origin: http://example.org
 200 POST /edits | Authorization: Bearer TOKEN
+400 POST /grow | Authorization: Bearer TOKEN
+200 GET /snapshot | Authorization: Bearer TOKEN
 200 POST /edits | Cookie: a=b; rds_PORT=TOKEN; c=d
 200 POST /edits | Cookie: rds_1PORT=other; rds_PORT=TOKEN
 200 GET /doc | Host: example.org:PORT
@@ -328,7 +353,7 @@ def judge_tags(node):
             answer = asked("GET", target, None, "If-None-Match: *")
             with noted:
                 want(answer.status == status, f"GET {target} with * is answered {answer}")
-        for target in "/status", "/metrics", "/":
+        for target in "/status", "/metrics", "/snapshot", "/":
             answer = asked("GET", target, None, f"If-None-Match: {tag}")
             with noted:
                 want(answer.status == 200, f"GET {target} with a tag is answered {answer}")
@@ -339,6 +364,70 @@ def judge_tags(node):
         with noted:
             want(answer.status == 200 and answer.headers["etag"] != tag, f"after an edit a tag is answered {answer}")
     noted.end()
+
+
+# Names that a node of the group a, b is given, one after the other, and what each is due to be answered.
+DONE = '200 json {"ok":true}'
+NO_NAME = '400 json {"fault":2,"name":"BadName","text":".."}'
+NO_PLACE = '400 json {"fault":6,"name":"BadRoster","text":".."}'
+NAMES = [
+    (b"c", DONE), (b"c", NO_PLACE), (b"a", NO_PLACE), (b"b", NO_PLACE), (b"d-9", DONE), (b"e" * 16, DONE),
+    (b"", NO_NAME), (b"Cart", NO_NAME), (b"cArt", NO_NAME), (b"9d", NO_NAME), (b"-d", NO_NAME), (b"d_9", NO_NAME),
+    (b"d\n", NO_NAME), (b"c\n", NO_NAME), (b" d", NO_NAME), (b"c d", NO_NAME), (b'"d"', NO_NAME), (b"\1d", NO_NAME),
+    (b"e" * 17, NO_NAME), (b"e" * 100_000, NO_NAME), (b"d\xff", NO_NAME), ("d\u00fc".encode(), NO_NAME),
+]
+
+
+def judge_held(node, held):
+    """Whether a node holds this replica: by its snapshot, and by what it tells of itself."""
+    answer, due = node.answer("GET", "/snapshot"), snapshot_text(held)
+    found = answer.status, answer.headers.get("content-type"), answer.headers.get("etag"), answer.body
+    is_due = found == (200, "application/octet-stream", None, due)
+    want(is_due, f"of {held.names} GET /snapshot is answered {answer}, where {due} is due")
+    head = node.answer("HEAD", "/snapshot")
+    want((head.status, head.headers) == (200, answer.headers), f"HEAD /snapshot has {head}, and GET {answer.headers}")
+    status, tag = node.status(), '"{}-{}"'.format(*(half.hex() for half in tag_of(held)))
+    found = status["names"], status["mark"], node.answer("HEAD", "/ask").headers["etag"]
+    want(found == (held.names, mark_of(held.state), tag), f"a node of {held.names} tells of itself {found}")
+
+
+def judge_growth(node):
+    """Names that are put into the group of a node, by a record each, and the snapshots that it gives."""
+    edits = b'["set","m/x",7]\n["set","m/x",8]\n["add","s","r"]\n["inc","n",10]\n'
+    held = Replica("g", ["a", "b"], 0, State())
+    for verb, *of in ("set", ("m", "x"), (3, 7)), ("set", ("m", "x"), (3, 8)), ("add", ("s",), (4, "r")):
+        held = edited(held, verb, *of)[0]
+    held = edited(held, "inc", ("n",), amount=10)[0]
+    judge_held(node, Replica("g", ["a", "b"], 0, State()))
+    node.answer("POST", "/edits", edits)
+    judge_held(node, held)
+    file = node.folder / "a.rds"
+    with node.link() as link:
+        for name, due in NAMES:
+            before, answer = file.read_bytes(), link.answer(node.text("POST", "/grow", name))
+            judge(f"POST /grow {name[:20]}", answer, due)
+            is_done, text = due == DONE, before
+            if is_done:
+                held = grown(held, [name.decode()])
+                text = appended(before, change_text(0, State(), held))
+            want(answer.body.endswith(b"}\n") or not is_done, f"POST /grow {name} is answered {answer}")
+            want(file.read_bytes() == text, f"after POST /grow {name[:20]} the file isn't as due")
+        judge_held(node, held)
+        killed(node.child)
+        node.start()
+        judge_held(node, held)
+    with node.link() as link:
+        for number in range(256 - len(held.names)):
+            held = grown(held, [f"n{number}"])
+            judge(f"name {number}", link.answer(node.text("POST", "/grow", held.names[-1].encode())), DONE)
+        for name, due in (b"last", NO_PLACE), (b"Last", NO_NAME), (b"n0", NO_PLACE):
+            judge(f"a growth of 256 names by {name}", link.answer(node.text("POST", "/grow", name)), due)
+    judge_held(node, held)
+    want(read_file(file.read_bytes()).replica == held, "the file of a node that has grown isn't as due")
+    allowed = node.answer("GET", "/grow").headers.get("allow")
+    want(allowed == "POST", f"GET /grow is answered Allow: {allowed}")
+    (node.folder / "copy.rds").write_bytes(node.answer("GET", "/snapshot").body)
+    want(json.loads(node.told("show", "copy.rds")) == node.document(), "show of a snapshot differs from /doc")
 
 
 def asked_hash(question):
@@ -485,10 +574,14 @@ def try_requests(asked, folder):
         for part in lambda node: judge_comers(node, MAY_COME_WITH_TOKEN), judge_login:
             with noted:
                 part(node)
+    node = Node(asked.program, folder / "growing")
+    with running(node), noted:
+        judge_growth(node)
     with noted:
         judge_reach(node)
     with noted:
         try_log(asked, folder / "log")
     noted.end()
     count = REQUESTS.count("\n  ") + sum(table.strip().count("\n") + 1 for table in (MAY_COME, MAY_COME_WITH_TOKEN))
-    return f"{count} requests by hand, 900 at once, tags, a log, and what two replicas send each other"
+    count += len(NAMES)
+    return f"{count} requests by hand, 900 at once, tags, a log, 256 names, and what two replicas send each other"
