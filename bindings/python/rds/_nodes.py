@@ -212,9 +212,22 @@ class Node:
             raise fault(_OUT_OF_TURN, "OutOfTurn: the answer to POST /take is none of a node")
         return taken
 
+    def grow(self, name: bytes) -> None:
+        """Has the node put a name last in its roster."""
+        # On a connection of its own, since `_call` repeats nothing there. If the node grew, and its response is lost, a
+        # second request is refused: the name is there already, and nobody could say whose it is.
+        self.close()
+        body = self._call("POST", "/grow", {}, name)[1]
+        if _object_in(body).get("ok") is not True:
+            raise fault(_OUT_OF_TURN, "OutOfTurn: the answer to POST /grow is none of a node")
+
+    def snapshot(self) -> bytes:
+        """Asks for the snapshot of the node's document."""
+        return self._call("GET", "/snapshot", {})[1]
+
     def _call(self, method: str, target: str, fields: Dict[str, str], *pieces: bytes) -> Tuple[HTTPResponse, bytes]:
         """The response to a request, and its body. A connection that rested may be ended by then: each request may be
-        made twice, since one that is repeated changes nothing."""
+        made twice, since one that is repeated changes nothing. A name isn't told on a connection that rested."""
         is_new = self._connection.sock is None
         try:
             return self._try(method, target, fields, pieces)

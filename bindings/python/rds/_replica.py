@@ -1,6 +1,7 @@
 """Replicas, and places in their documents."""
 from __future__ import annotations
 
+import errno
 import json
 import os
 import threading
@@ -21,7 +22,7 @@ _PathLike = Union[str, "os.PathLike[str]"]
 
 _ROOM = 4096
 _MOST = (1 << 64) - 1
-_SAME_REPLICA, _FORKED = 21, 28
+_SAME_REPLICA, _OUT_OF_TURN, _FORKED, _EXISTS, _BESIDE = 21, 22, 28, 71, 72
 
 
 class Edited(NamedTuple):
@@ -244,11 +245,52 @@ class Replica:
         self._done(LIB.rds_open(self._at, snapshot, len(snapshot)))
         return self
 
+    @classmethod
+    def join(
+        cls,
+        url: str,
+        own: str,
+        path: Optional[_PathLike] = None,
+        token: Optional[str] = None,
+        timeout: Optional[float] = 30.0,
+    ) -> Replica:
+        """A new replica, named `own`, of the group of the node at `http://HOST:PORT`, with all that the node has seen.
+        With a path it lives in a new file, and is kept there. The token and the timeout are as in `sync`.
+
+        The name is put into the node's roster first, so it has to be new there: two that join at once never get one
+        name. Let all join at one node of a group, always the same: rosters that grow at two can't meet again.
+
+        Errors are as in `sync`. A node that refuses the name tells why by the `__cause__`, `BadRoster` (it is there
+        already, or 256 are) or `BadName`; an older node refuses any, by 404. What is at the path already (`Exists`), or
+        else hinders a file, is told before anything is asked. After a later error the name may be in the roster, so
+        join by another. Only at `Unsure` a file is left: it holds the replica, and may be opened.
+        """
+        with met(url, token, timeout) as node:
+            if path is not None:
+                _refuse_path(path)
+            node.grow(_bytes_of(own))
+            snapshot = node.snapshot()
+            with cls.from_bytes(snapshot) as theirs:
+                status = theirs.status()
+            if own == status.own or own not in status.names:
+                raise fault(_OUT_OF_TURN, f"OutOfTurn: the node's snapshot has no place for {own!r}")
+            self = cls.new(status.group, status.names, own)
+            try:
+                self.merge(snapshot)
+                # Made last, so that no file is left of what fails before. All is kept in it at once.
+                if path is not None:
+                    self._open_by(LIB.rds_make_file, path)
+            except BaseException:
+                self.close()
+                raise
+            return self
+
     def _open_by(self, call: Any, path: _PathLike) -> None:
         name = os.fspath(path)
         at = os.fsencode(name)
         self._done(call(byref(self._slot), at, len(at)), name)
         self._file = name
+        self._is_ahead = False
 
     def keep(self) -> None:
         """Keeps the replica in its file: all edits so far outlast a crash of the machine. `Closed` without a file. At
@@ -485,6 +527,23 @@ class Replica:
         with self._lock:
             self._done(LIB.rds_grow(self._at, text, len(text)), name)
             self._is_ahead = True
+
+
+def _refuse_path(path: _PathLike) -> None:
+    """Raises what would keep a new file from being made at a path, as far as that can be told beforehand."""
+    name = os.fspath(path)
+    folder, last = os.path.split(name)
+    if name.endswith(".new"):
+        raise fault(_BESIDE, given=name)
+    try:
+        os.lstat(name)
+    except FileNotFoundError:
+        if not last or not os.path.isdir(folder or os.curdir):
+            raise
+    else:
+        raise fault(_EXISTS, given=name)
+    if not os.access(folder or os.curdir, os.R_OK | os.W_OK | os.X_OK):
+        raise PermissionError(errno.EACCES, os.strerror(errno.EACCES), name)
 
 
 def _answer(answer: Dict[str, Any], edit: Edit) -> Union[Edited, RdsError]:

@@ -19,8 +19,12 @@ import pytest
 
 from node_program import NODE
 from rds import (
+    BadName,
+    BadRoster,
     BadText,
+    Beside,
     Closed,
+    Exists,
     Forked,
     OutOfTurn,
     OwnAhead,
@@ -47,6 +51,8 @@ LIMIT = 60.0
 
 # The group inventory and the roster shop, store, as they stand in questions and responses (docs/FORMATS.md).
 FRONT = b"\x09inventory\x00\x02\x04shop\x05store"
+# The same when `north` has joined.
+GROWN = b"\x09inventory\x00\x03\x04shop\x05store\x05north"
 # The brief of nothing: no run, no counter row.
 NOTHING = b"\x00" + bytes(4)
 
@@ -85,6 +91,8 @@ def response(body: bytes = b"", status: str = "200 OK", *lines: str, length: Opt
     head = [f"HTTP/1.1 {status}", *lines, *([] if status.startswith("304") else [f"Content-Length: {told}"]), "", ""]
     return "\r\n".join(head).encode() + body
 
+
+DONE = response(b'{"ok":true}\n', "200 OK", "Content-Type: application/json")
 
 Act = Callable[["Fake", socket.socket], object]
 
@@ -195,6 +203,15 @@ def node_over(
             return response(question, "200 OK", *lines)
         if target == "/answer":
             return response(peer.answer(body))
+        if target == "/grow":
+            try:
+                peer.grow(body.decode())
+            except RdsError as error:
+                told = {"fault": error.number, "name": type(error).__name__, "text": "why"}
+                return response(json.dumps(told).encode(), "400 Bad Request", "Content-Type: application/json")
+            return DONE
+        if target == "/snapshot":
+            return response(bytes(peer), "200 OK", "Content-Type: application/octet-stream")
         assert target == "/take"
         size = struct.unpack(">I", body[:4])[0]
         taken = peer.take(body[4 : 4 + size], body[4 + size :])
@@ -712,6 +729,287 @@ def test_one_who_takes_no_more_of_a_request(pair: Pair) -> None:
         assert type(caught.value.__cause__) is TooLong and fake.calls == 1
 
 
+# ---- Who joins ----
+
+
+def test_each_byte_of_a_joining(pair: Pair) -> None:
+    _, store = pair
+    store["apples"].increase(10)
+    store.grow("north")
+    with Fake(says(DONE, response(bytes(store)))) as fake:
+        with Replica.join(fake.url, "north", token=TOKEN) as north:
+            assert north.show() == store.show() and north.mark() == store.mark()
+            status = north.status()
+            assert (status.group, status.own, status.names) == ("inventory", "north", [*NAMES, "north"])
+            with pytest.raises(Closed):
+                north.keep()
+        assert fake.calls == 1
+    begin = f"Host: {HOST}:{fake.port}\r\nAuthorization: Bearer {TOKEN}\r\n".encode()
+    assert fake.requests == [
+        b"POST /grow HTTP/1.1\r\n" + begin + b"Content-Length: 5\r\n\r\nnorth",
+        b"GET /snapshot HTTP/1.1\r\n" + begin + b"\r\n",
+    ]
+
+
+def test_one_that_joins_meets_the_node(pair: Pair, tmp_path: Path) -> None:
+    shop, store = pair
+    file = tmp_path / "north.rds"
+    store["apples/tags"].add("red")
+    shop["apples"].increase(10)
+    store.pull(shop)
+    with Fake(node_over(store, front=GROWN)) as fake:
+        with Replica.join(f"{fake.url}/", "north", file) as north:
+            assert file.read_bytes() == bytes(north) and names_in(tmp_path) == ["north.rds"]
+            assert north.show() == store.show() and north.status().names == store.status().names == [*NAMES, "north"]
+            assert north.sync(fake.url) == Synced(0, 0)
+            assert fake.targets() == ["/grow", "/snapshot", "/ask"]
+            north["k"].set(1)
+            store["apples/tags"].delete("red")
+            assert north.sync(fake.url) == Synced(1, 1)
+            assert north.show() == store.show() and north.mark() == store.mark()
+        with Replica.open(file) as north:
+            assert north.status().own == "north" and north["k"].register == [1]
+            assert shop.pull(north) > 0 and shop.mark() == store.mark()
+
+
+def names_in(folder: Path) -> List[str]:
+    return sorted(it.name for it in folder.iterdir())
+
+
+def test_two_that_join(pair: Pair) -> None:
+    _, store = pair
+    with Fake(node_over(store)) as fake:
+        with Replica.join(fake.url, "north") as north, Replica.join(fake.url, "south") as south:
+            assert (north.status().own, north.status().names) == ("north", [*NAMES, "north"])
+            assert (south.status().own, south.status().names) == ("south", [*NAMES, "north", "south"])
+            assert (north["k"].set(1).dot, south["k"].set(2).dot) == (1, 1)
+            assert (south.pull(north), north.pull(south)) == (1, 1)
+            assert north.conflicts() == south.conflicts() == {"k": [1, 2]} and north.mark() == south.mark()
+            assert north.status().names == south.status().names
+
+
+@pytest.mark.parametrize("ends", [b"\r\nConnection: close", b"\r\nX: it leaves without a word"])
+def test_joining_by_connections_that_end(pair: Pair, ends: bytes) -> None:
+    _, store = pair
+    store["k"].set(1)
+    with Fake(node_over(store, ends=ends)) as fake:
+        with Replica.join(fake.url, "north") as north:
+            assert north.mark() == store.mark()
+        assert fake.targets() == ["/grow", "/snapshot"] and fake.calls == 2
+
+
+def test_a_name_is_told_once(pair: Pair) -> None:
+    """Its answer is lost. A node that did it would refuse a second request, so none is made."""
+    _, store = pair
+    with Fake(says_last(b"")) as fake:
+        with pytest.raises(ConnectionError) as caught:
+            Replica.join(fake.url, "north")
+        assert caught.value.filename == fake.url and fake.targets() == ["/grow"]
+
+    def act(fake: Fake, link: socket.socket) -> None:
+        if not fake.requests:
+            fake.request(link)
+            link.sendall(response(bytes(store)))
+        fake.request(link)
+
+    with Fake(act) as fake, _nodes.met(fake.url, None, LIMIT) as node:
+        assert node.snapshot() == bytes(store)
+        with pytest.raises(ConnectionError):
+            node.grow(b"north")
+        assert fake.targets() == ["/snapshot", "/grow"]
+
+
+def test_a_long_document_is_joined(pair: Pair, tmp_path: Path) -> None:
+    _, store = pair
+    store.edit(("set", f"k/{number}", "x" * 1000) for number in range(5000))
+    with Fake(node_over(store)) as fake, Replica.join(fake.url, "north", tmp_path / "north.rds") as north:
+        assert north.mark() == store.mark() and len(list(north["k"])) == 5000
+        with Replica.from_bytes((tmp_path / "north.rds").read_bytes()) as held:
+            assert bytes(held) == bytes(north)
+
+
+def cannot_join(kind: Type[RdsError], act: Act, folder: Path, own: str = "north") -> BaseException:
+    """Nobody joins: a fault tells the URL, no file is left, and what was opened is closed."""
+    opened: List[Replica] = []
+
+    class Noted(Replica):
+        def __init__(self) -> None:
+            super().__init__()
+            opened.append(self)
+
+    with Fake(act) as fake:
+        with pytest.raises(kind) as caught:
+            Noted.join(fake.url, own, folder / "north.rds")
+        assert caught.value.given == fake.url
+    for it in opened:
+        with pytest.raises(Closed):
+            it.status()
+    assert names_in(folder) == []
+    return caught.value
+
+
+NO_NAMES = [("shop", BadRoster), ("store", BadRoster), ("North", BadName), ("", BadName), ("n" * 17, BadName)]
+
+
+@pytest.mark.parametrize("name, kind", NO_NAMES)
+def test_names_that_a_node_refuses(pair: Pair, tmp_path: Path, name: str, kind: Type[RdsError]) -> None:
+    _, store = pair
+    error = cannot_join(PeerEnded, node_over(store), tmp_path, name)
+    assert str(error).endswith(f": PeerEnded: the node refused POST /grow: 400: {kind.__name__}: why")
+    assert type(error.__cause__) is kind and store.status().names == NAMES
+
+
+def test_a_roster_that_is_full(tmp_path: Path) -> None:
+    names = [f"n{number}" for number in range(255)]
+    with Replica.new("inventory", names, "n0") as peer, Fake(node_over(peer)) as fake:
+        with Replica.join(fake.url, "north") as north:
+            assert north.status().names == [*names, "north"]
+            assert north["k"].set(1).dot == 1 and peer.pull(north) == 1
+        error = cannot_join(PeerEnded, node_over(peer), tmp_path, "south")
+        assert type(error.__cause__) is BadRoster and len(peer.status().names) == 256
+
+
+def test_an_older_node(tmp_path: Path) -> None:
+    none = response(b'{"status":404,"text":"no such resource"}', "404 Not Found")
+    for act, request in (says(none), "POST /grow"), (says(DONE, none), "GET /snapshot"):
+        error = cannot_join(PeerEnded, act, tmp_path)
+        assert f"refused {request}: 404: no such resource" in str(error) and error.__cause__ is None
+
+
+def test_a_node_of_another_group() -> None:
+    """Whatever group the node tells, of that the new replica is."""
+    with Replica.new('ü"\\', ["a", "north", "b"], "b") as other:
+        other["k"].set("ü")
+        with Fake(says(DONE, response(bytes(other)))) as fake, Replica.join(fake.url, "north") as north:
+            assert north.status()[:3] == ('ü"\\', "north", ["a", "north", "b"])
+            assert north.show() == other.show() and north.mark() == other.mark()
+
+
+@pytest.mark.parametrize("body", [b"", b"grown", b'{"ok":false}', b'{"ok":1}', b'{"taken":1}', b"[true]", b"\xff"])
+def test_an_answer_to_grow_that_is_none(tmp_path: Path, body: bytes) -> None:
+    assert "POST /grow" in str(cannot_join(OutOfTurn, says(response(body)), tmp_path))
+
+
+@pytest.mark.parametrize("text", [b"", b"RDS", b"no snapshot", b'{"ok":true}\n'])
+def test_a_snapshot_that_is_none(tmp_path: Path, text: bytes) -> None:
+    cannot_join(BadText, says(DONE, response(text)), tmp_path)
+
+
+def test_a_snapshot_that_was_cut(pair: Pair, tmp_path: Path) -> None:
+    _, store = pair
+    store.grow("north")
+    store["k"].set(1)
+    cannot_join(BadText, says(DONE, response(bytes(store)[:-1])), tmp_path)
+
+
+def test_a_snapshot_without_the_name(pair: Pair, tmp_path: Path) -> None:
+    _, store = pair
+    store["k"].set(1)
+    assert "no place for 'north'" in str(cannot_join(OutOfTurn, says(DONE, response(bytes(store))), tmp_path))
+
+
+def test_a_snapshot_that_has_another_of_the_name(pair: Pair, tmp_path: Path) -> None:
+    _, store = pair
+    store.grow("north")
+    with Replica.new("inventory", [*NAMES, "north"], "north") as other:
+        cannot_join(OutOfTurn, says(DONE, response(bytes(other))), tmp_path)
+        other["k"].set(1)
+        store.pull(other)
+        cannot_join(OwnAhead, says(DONE, response(bytes(store))), tmp_path)
+
+
+def test_a_snapshot_that_is_too_long(pair: Pair, tmp_path: Path, monkeypatch: pytest.MonkeyPatch) -> None:
+    _, store = pair
+    monkeypatch.setattr(_nodes, "_LONGEST", 1000)
+    store.grow("north")
+    store["k"].set("x" * 1000)
+    cannot_join(TooLong, says(DONE, response(bytes(store))), tmp_path)
+
+
+def test_something_is_at_the_path(tmp_path: Path) -> None:
+    """It is told before the node is asked for anything."""
+    (tmp_path / "file").write_text("x")
+    (tmp_path / "link").symlink_to("nowhere")
+    before = names_in(tmp_path)
+    kinds: List[Tuple[str, Type[BaseException]]] = [("file", Exists), ("link", Exists), (".", Exists)]
+    kinds += [("a.new", Beside), ("none/a", FileNotFoundError), ("file/a", NotADirectoryError), ("a/", OSError)]
+    with Fake(says()) as fake:
+        for name, kind in kinds:
+            path = f"{tmp_path}/{name}"
+            with pytest.raises(kind) as caught:
+                Replica.join(fake.url, "north", path)
+            assert type(caught.value) is kind or kind is OSError
+            assert path in (getattr(caught.value, "given", None), getattr(caught.value, "filename", None))
+        with pytest.raises(FileNotFoundError):
+            Replica.join(fake.url, "north", "")
+        with pytest.raises(ValueError):
+            Replica.join(fake.url, "north", f"{tmp_path}/a\0")
+        assert fake.calls == 0
+    assert names_in(tmp_path) == before and (tmp_path / "file").read_text() == "x"
+
+
+def test_a_folder_that_takes_no_file(tmp_path: Path) -> None:
+    tmp_path.chmod(0o500)
+    try:
+        if os.access(tmp_path, os.W_OK):
+            pytest.skip("this user may write anywhere")
+        with Fake(says()) as fake, pytest.raises(PermissionError) as caught:
+            Replica.join(fake.url, "north", tmp_path / "north.rds")
+        assert caught.value.filename == str(tmp_path / "north.rds") and fake.calls == 0
+    finally:
+        tmp_path.chmod(0o700)
+
+
+def test_a_path_that_is_taken_meanwhile(pair: Pair, tmp_path: Path) -> None:
+    _, store = pair
+    file = tmp_path / "north.rds"
+    with Fake(node_over(store, first=lambda target: file.write_text("x"))) as fake:
+        with pytest.raises(Exists) as caught:
+            Replica.join(fake.url, "north", file)
+        assert caught.value.given == str(file) and fake.targets() == ["/grow", "/snapshot"]
+    assert names_in(tmp_path) == ["north.rds"] and file.read_text() == "x"
+
+
+def test_a_new_file_that_may_not_last(pair: Pair, tmp_path: Path) -> None:
+    """The folder of the file can't be synced: the file is there, and the call says so."""
+    _, store = pair
+    source, library = Path(__file__).with_name("unsynced.c"), tmp_path / "unsynced.so"
+    if subprocess.run(["cc", "-shared", "-fPIC", "-o", str(library), str(source), "-ldl"]).returncode:
+        pytest.skip("there is no C compiler")
+    means = {**os.environ, "LD_PRELOAD": str(library), "PYTHONPATH": os.pathsep.join(filter(None, sys.path))}
+    code = "import sys, rds; rds.Replica.join(sys.argv[1], 'north', sys.argv[2])"
+    with Fake(node_over(store)) as fake:
+        words = [sys.executable, "-c", code, fake.url, str(tmp_path / "north.rds")]
+        ran = subprocess.run(words, env=means, capture_output=True, text=True)
+    assert ran.returncode == 1 and "Unsure: it is written, and may not last" in ran.stderr
+    with Replica.open(tmp_path / "north.rds") as north:
+        assert north.status().own == "north" and north.mark() == store.mark()
+
+
+def test_words_by_which_nobody_joins(tmp_path: Path) -> None:
+    (tmp_path / "file").touch()
+    for path in None, tmp_path / "file":
+        with pytest.raises(ValueError, match="is no node, as http://127.0.0.1:7780 is"):
+            Replica.join("http://h:1/x", "north", path)
+        with pytest.raises(ValueError, match="a token is 16 to 128 of "):
+            Replica.join("http://h:1", "north", path, "x")
+        with pytest.raises(ValueError, match="a timeout is "):
+            Replica.join("http://h:1", "north", path, timeout=0)
+
+
+def test_nobody_is_there_to_join(tmp_path: Path) -> None:
+    with socket.create_server((HOST, 0)) as free:
+        url = f"http://{HOST}:{free.getsockname()[1]}"
+    with pytest.raises(ConnectionRefusedError) as caught:
+        Replica.join(url, "north", tmp_path / "north.rds")
+    assert caught.value.filename == url
+    with Fake(says(DONE, b"")) as fake:
+        with pytest.raises(TimeoutError) as late:
+            Replica.join(fake.url, "north", tmp_path / "north.rds", timeout=1)
+        assert late.value.filename == fake.url and fake.targets() == ["/grow", "/snapshot"]
+    assert names_in(tmp_path) == []
+
+
 # ---- How long it takes ----
 
 SLOW: Dict[str, Tuple[Act, float, str]] = {
@@ -1007,6 +1305,85 @@ def test_a_node_that_is_killed(file: Path, tmp_path: Path, target: str) -> None:
             are_equal(shop, file)
     finally:
         node.kill()
+
+
+@with_the_program
+def test_one_joins_a_node(file: Path, tmp_path: Path) -> None:
+    told("inc", file, "apples", "10")
+    with running(file) as node:
+        with Replica.join(node.url, "north", tmp_path / "north.rds") as north:
+            assert json.loads(told("status", file))["names"] == north.status().names == [*NAMES, "north"]
+            are_equal(north, file)
+            assert north.sync(node.url) == Synced(0, 0)
+            north["k"].set(1)
+            assert north.sync(node.url) == Synced(0, 1)
+            are_equal(north, file)
+        for name, kind in ("north", BadRoster), ("store", BadRoster), ("North", BadName), ("n" * 17, BadName):
+            with pytest.raises(PeerEnded, match=f"refused POST /grow: 400: {kind.__name__}: ") as caught:
+                Replica.join(node.url, name, tmp_path / "none.rds")
+            assert type(caught.value.__cause__) is kind
+        assert not (tmp_path / "none.rds").exists()
+        with pytest.raises(Exists):
+            Replica.join(node.url, "south", tmp_path / "north.rds")
+    assert json.loads(told("status", file))["names"] == [*NAMES, "north"]
+    with Replica.open(tmp_path / "north.rds") as north:
+        are_equal(north, file)
+
+
+@with_the_program
+def test_a_name_lasts_at_a_node_that_is_killed(file: Path) -> None:
+    node = Node(file)
+    try:
+        with _nodes.met(node.url, None, LIMIT) as said:
+            said.grow(b"north")
+    finally:
+        node.kill()
+    assert json.loads(told("status", file))["names"] == [*NAMES, "north"]
+
+
+@with_the_program
+def test_many_join_a_node_at_once(file: Path) -> None:
+    """Four take each name. One of them gets it, and all that joined have one document in the end."""
+    joined: List[Replica] = []
+    refused: List[BaseException] = []
+
+    def join(url: str, name: str) -> None:
+        try:
+            joined.append(Replica.join(url, name, timeout=LIMIT))
+        except PeerEnded as error:
+            refused.append(error)
+
+    with running(file) as node:
+        names = [f"n{number}" for number in range(5)]
+        threads = [threading.Thread(target=join, args=(node.url, name), daemon=True) for name in names * 4]
+        for thread in threads:
+            thread.start()
+        for thread in threads:
+            thread.join(LIMIT)
+        assert sorted(it.status().own for it in joined) == names
+        assert len(refused) == 15 and all(type(it.__cause__) is BadRoster for it in refused)
+        for it in joined:
+            it["k"].set(it.status().own)
+            assert it.sync(node.url).given == 1
+        for it in joined:
+            it.sync(node.url)
+            are_equal(it, file)
+            assert set(it["k"].register) == set(names) and sorted(it.status().names) == sorted([*NAMES, *names])
+            it.close()
+
+
+@with_the_program
+def test_one_joins_by_a_token(file: Path, tmp_path: Path) -> None:
+    secret = tmp_path / "token"
+    secret.write_text(TOKEN)
+    with running(file, "--token-file", secret) as node:
+        for token in None, TOKEN[::-1]:
+            with pytest.raises(PeerEnded, match="refused POST /grow: 401: the token is due"):
+                Replica.join(node.url, "north", tmp_path / "north.rds", token)
+        assert not (tmp_path / "north.rds").exists()
+        with Replica.join(node.url, "north", tmp_path / "north.rds", TOKEN) as north:
+            assert north.sync(node.url, TOKEN) == Synced(0, 0)
+            are_equal(north, file)
 
 
 @with_the_program
