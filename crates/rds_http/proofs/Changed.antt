@@ -34,9 +34,10 @@ not_all false quiet = absurd (cc)
 
 -- nothing is done for want of memory
 pub edits_refused : (body : List ℕ) (before after : ReplicaValue) (response : Response) (fault : Fault)
-    → fault ≡ Memory → after ≡ before → TellsFault fault response → AnswersEdits body before after response
-edits_refused body before after response fault memory same told =
-    inr (record { same = same; told = subst (λ f. TellsFault f response) memory told })
+    → line_count body ≤ MOST_LINES → fault ≡ Memory → after ≡ before → TellsFault fault response
+    → AnswersEdits body before after response
+edits_refused body before after response fault few memory same told =
+    inl (few, inr (record { same = same; told = subst (λ f. TellsFault f response) memory told }))
 
 -- what answers a question is refused
 pub texts_refused : (question answer : List ℕ) (before after : ReplicaValue) (response : Response) (fault : Fault)

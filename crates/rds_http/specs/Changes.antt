@@ -1,5 +1,5 @@
 -- What requests make of a document.
-use Rattle.std.specs.Prelude.{◌≡◌, ◌≢◌, ◌⊎◌, ℕ, false, List, [], ◌∷◌, ◌++◌, codes, length, Result, Err, Ok}
+use Rattle.std.specs.Prelude.{◌≡◌, ◌≢◌, ◌⊎◌, ◌<◌, ◌≤◌, ℕ, false, List, [], ◌∷◌, ◌++◌, codes, length, Result, Err, Ok}
 use Rattle.std.specs.Global.{Vec}
 use Rattle.std.specs.Int.{to_be_bytes, w32}
 use Rattle.std.specs.Str.{is_utf8}
@@ -8,7 +8,7 @@ use Rattle.rds_codec.specs.Decoding.{Decodes, IsTextOf}
 use Rattle.rds_lines.specs.Editing.{EditsLines, replies_text}
 use Rattle.rds_lines.specs.Lines.{lines_in}
 use Rattle.rds_names.specs.declared.fault.Fault.{Fault}
-use Rattle.rds_names.specs.declared.fault.Fault.TheVariants.{Bad, BadName, Cut, Memory}
+use Rattle.rds_names.specs.declared.fault.Fault.TheVariants.{Bad, BadName, Cut, Memory, TooLong}
 use Rattle.rds_offline.specs.Letters.{TakesResponse}
 use Rattle.rds_output.specs.Reply.{reply_line}
 use Rattle.rds_output.specs.declared.reply.Reply.{Reply}
@@ -19,10 +19,12 @@ use Rattle.rds_state.specs.Fits.{ReplicaValue}
 use Rattle.rds_store.specs.Documents.{IsGrownBy, RefusesGrowth}
 use Rattle.rds_store.specs.Meetings.{MayAnswer, MayAsk, RefusesTaking, RespondsTo}
 use Rattle.rds_http.specs.Asked.{HasTag}
+use Rattle.rds_http.specs.Lines.{line_count}
 use Rattle.rds_http.specs.Looks.{lines_of_json}
 use Rattle.rds_http.specs.Refusals.{IsUnknownTag, TellsFault, json}
 use Rattle.rds_http.specs.Replies.{Tells}
 use Rattle.rds_http.specs.Tags.{HoldsTagged, IsTagOf, RefusesTag}
+use Rattle.rds_http.specs.declared.lines.TheConstants.{MOST_LINES}
 use Rattle.rds_http.specs.declared.tag.Tag.{Tag}
 
 -- ---- edits
@@ -38,9 +40,11 @@ pub record Refuses (fault : Fault) (before after : ReplicaValue) (response : Res
   pub same : after ≡ before
   pub told : TellsFault fault response
 
--- the same, unless memory ran out, which changes nothing
+-- the same, unless memory ran out, or the body has too many lines: then nothing was done
 abbrev pub AnswersEdits : List ℕ → ReplicaValue → ReplicaValue → Response → Type 0
-AnswersEdits body before after response = EditsBody body before after response ⊎ Refuses Memory before after response
+AnswersEdits body before after response =
+    ((line_count body ≤ MOST_LINES) × (EditsBody body before after response ⊎ Refuses Memory before after response))
+    ⊎ ((MOST_LINES < line_count body) × Refuses TooLong before after response)
 
 -- ---- growths
 

@@ -21,7 +21,7 @@ ghost use Rattle.rds_http.specs.Lines.{is_short};
 ghost use Rattle.rds_http.specs.Site.{ChangesAreNoted, KeepsFile};
 ghost use Rattle.rds_http.specs.declared.lines.TheConstants.{LONGEST};
 
-use crate::lines::{LONGEST, are_refusals, line_count, put_lines};
+use crate::lines::{LONGEST, MOST_LINES, are_refusals, line_count, put_lines};
 use crate::metrics::Metrics;
 use crate::refusals::{refuse, refuse_tag};
 use crate::replies::{JSON, LINES, add_field};
@@ -52,7 +52,7 @@ impl<H: Disk> Drop for Held<'_, H> {
 }
 
 /// Edits the document as the lines of a body say, and answers each but the empty ones. What that takes is there before
-/// the first is done, so that what is done is answered.
+/// the first is done, so that what is done is answered. A body of too many lines is refused whole (`TooLong`).
 pub fn edit<H: Disk>(
     alloc: Global,
     reader: &mut LineReader,
@@ -69,7 +69,11 @@ pub fn edit<H: Disk>(
     ensures refused { OnOk result (response.new.status ≢ 200 → held.new ≡ held.old) }
     ensures err { OnErr result (held.new ≡ held.old) }
 {
-    if make_room(response, line_count(body)).is_err() {
+    let lines = line_count(body);
+    if lines > MOST_LINES {
+        return refuse(alloc, Fault::TooLong, response);
+    }
+    if make_room(response, lines).is_err() {
         return refuse(alloc, Fault::Memory, response);
     }
     add_field(response, CONTENT_TYPE, LINES)?;

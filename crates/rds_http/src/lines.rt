@@ -7,7 +7,7 @@ ghost use Rattle.rds_lines.specs.Lines.{lines_in};
 ghost use Rattle.rds_names.specs.Fault.{name_of};
 ghost use Rattle.rds_output.specs.Reply.{is_refusal, reply_line};
 ghost use Rattle.rds_output.specs.declared.reply.Reply.TheVariants.{Edited, RefusedLine};
-ghost use Rattle.rds_http.specs.Lines.{is_short};
+ghost use Rattle.rds_http.specs.Lines.{is_short, line_count};
 
 use bytes::BufMut;
 use http_server::Rope;
@@ -17,12 +17,16 @@ use rds_output::{Digits, Reply};
 /// No line that answers an edit, a growth or a take has more bytes.
 pub const LONGEST: usize = 128;
 
+/// No more lines are taken in one body. The room for their answers is made before the first is done.
+pub const MOST_LINES: usize = 524_288;
+
 /// No number has more digits.
 const DIGITS: usize = 39;
 
 /// How many lines there are in a body at most.
 pub fn line_count(body: &[u8]) -> usize
-    ensures { length (lines_in body.now) ≤ result }
+    ensures count { result ≡ line_count body.now }
+    ensures most { length (lines_in body.now) ≤ result }
 {
     body.iter().filter(|b| **b == b'\n').count() + 1
 }
