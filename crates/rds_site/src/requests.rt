@@ -53,6 +53,10 @@ pub enum Resource {
     Conflicts,
     /// Whose replica it has, and how much there is of it: `GET /status`.
     Status,
+    /// That it puts a name last in its roster: `POST /grow`.
+    Grow,
+    /// The document's snapshot: `GET /snapshot`.
+    Snapshot,
 }
 
 impl Resource {
@@ -60,7 +64,12 @@ impl Resource {
     fn has_body(self) -> bool {
         matches!(
             self,
-            Resource::Answer | Resource::Take | Resource::Push | Resource::Pull | Resource::Edits
+            Resource::Answer
+                | Resource::Take
+                | Resource::Push
+                | Resource::Pull
+                | Resource::Edits
+                | Resource::Grow
         )
     }
 
@@ -85,6 +94,8 @@ impl Resource {
             Resource::Document => "/doc/",
             Resource::Conflicts => "/conflicts/",
             Resource::Status => "/status",
+            Resource::Grow => "/grow",
+            Resource::Snapshot => "/snapshot",
         }
     }
 
