@@ -1,6 +1,6 @@
 -- A replica whose group grows.
-use Rattle.std.proofs.Common.{◌≡◌, ◌∙◌, ◌⊎◌, ◌++◌, ℕ, Bool, true, false, cond, leb, List, length, Result, Ok, Err, ap, subst, sym, refl, inl, inr}
-use Rattle.std.specs.Prelude.{IsOk, MatchResult, OnOk, map}
+use Rattle.std.proofs.Common.{◌≡◌, ◌∙◌, ◌⊎◌, ◌++◌, ℕ, Bool, true, false, cond, leb, List, length, Option, Result, Ok, Err, ap, subst, sym, refl, inl, inr}
+use Rattle.std.specs.Prelude.{IfOk, IsOk, MatchResult, OnOk, map}
 use denote.Bor.{Bor}
 use Rattle.rds_names.specs.Gives.{Refuses}
 use Rattle.rds_names.specs.Roster.{Begins, RosterValue, are_names, grown_of}
@@ -8,6 +8,7 @@ use Rattle.rds_names.specs.declared.fault.Fault.{Fault}
 use Rattle.rds_names.specs.declared.fault.Fault.TheVariants.{BadRoster, Memory, WrongGroup, WrongRoster}
 use Rattle.rds_state.specs.Fits.{ReplicaValue}
 use Rattle.rds_state.specs.Grown.{GrowGives}
+use Rattle.rds_output.specs.Reply.{WritesReply}
 use Rattle.rds_output.specs.declared.reply.Reply.{Reply}
 use Rattle.rds_output.specs.declared.reply.Reply.TheVariants.{Done}
 use Rattle.rds_files.specs.Files.{IsHeldAt, IsUnkept, KeptFile, RefusesLock, ReplacedValue}
@@ -15,6 +16,7 @@ use Rattle.rds_words.proofs.OneMeaning.{ok_isnt_err}
 use Rattle.rds_words.specs.Meaning.{names_for, names_in}
 use Rattle.rds_words.specs.declared.tasks.GrowWords.{GrowWords}
 use Rattle.rds_commands.specs.Edits.{GrowsFile, IsGrown, RefusesGrow, RefusesGrowIn}
+use Rattle.rds_commands.specs.Told.{WritesGrowSite}
 
 ok_is : (x y : RosterValue) → (let a : Result RosterValue Fault = Ok x in a ≡ Ok y) → x ≡ y
 ok_is x y e = cc
@@ -118,3 +120,11 @@ module _ (words : GrowWords) (texts : List (Bor (List ℕ))) (given : Fault) (sa
 -- words that are names aren't refused
 pub not_unnamed : {P : Type 0} (words : GrowWords) (names : List (List ℕ)) (fault : Fault) → names_for words ≡ Ok names → names_for words ≡ Err fault → P
 not_unnamed words names fault asked due = absurd (ok_isnt_err names fault (sym asked ∙ due))
+
+-- ---- at a site
+
+-- what came of asking a site is told
+pub told_by_site : (words : GrowWords) (result : Result Reply Fault) (before after : Option (List ℕ)) (status : ℕ) → IfOk result (λ _. IsOk (names_for words)) → IfOk result (λ reply. reply ≡ Done)
+    → WritesReply result before after status → WritesGrowSite words before after status
+told_by_site words (Ok reply) before after status named is wrote = inl (named, subst (λ (r : Reply). WritesReply (Ok r) before after status) is wrote)
+told_by_site words (Err fault) before after status named is wrote = inr (fault, wrote)

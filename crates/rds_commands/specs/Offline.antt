@@ -3,8 +3,9 @@ use Rattle.std.specs.Prelude.{◌≡◌, ◌⊎◌, ℕ, Bool, true, false, List
 use Rattle.std.specs.Io.KnownBytes.{Appends}
 use Rattle.rds_names.specs.declared.fault.Fault.{Fault}
 use Rattle.rds_names.specs.declared.fault.Fault.TheVariants.{Device, Forked, Memory, Usage}
-use Rattle.rds_files.specs.Files.{FileValue, IsUnread, ReplacedValue}
-use Rattle.rds_offline.specs.Copies.{InitsFrom, MergesFile, RefusesInitFrom, RefusesMergeFile}
+use Rattle.rds_names.specs.Name.{name_of}
+use Rattle.rds_files.specs.Files.{FileValue, IsUnread, KeptFile, ReplacedValue}
+use Rattle.rds_offline.specs.Copies.{InitsFrom, InitsFromCopy, MergesFile, RefusesInitFrom, RefusesMergeFile}
 use Rattle.rds_offline.specs.Letters.{
   AnswersFile,
   AsksFile,
@@ -20,15 +21,33 @@ use Rattle.rds_output.specs.declared.reply.Reply.TheVariants.{Done, Taken}
 use Rattle.rds_words.specs.declared.tasks.InitFromWords.{InitFromWords}
 use Rattle.rds_commands.specs.OfFile.{WritesOfFile}
 use Rattle.rds_commands.specs.Reading.{IsReadBy, text_read}
-use Rattle.rds_commands.specs.Visits.{WritesVisitOf}
+use Rattle.rds_commands.specs.Visits.{WritesVisitOf, is_site}
 use Rattle.rds_lines.specs.Streams.{NoneFailed, Stream}
 
 -- ---- copies
 
-abbrev pub WritesInitFrom : InitFromWords → Option (List ℕ) → Option (List ℕ) → ℕ → Type 0
-WritesInitFrom words =
+abbrev pub WritesInitFromFile : InitFromWords → Option (List ℕ) → Option (List ℕ) → ℕ → Type 0
+WritesInitFromFile words =
     WritesOfFile (λ file answer. InitsFrom words.file.now words.from.now words.own.now file × (answer ≡ Done))
     (RefusesInitFrom words.own.now)
+
+-- the file was made from bytes that a site told
+abbrev pub IsFromSite : InitFromWords → KeptFile → Type 0
+IsFromSite words file = (copy : List ℕ) × InitsFromCopy words.file.now copy words.own.now file
+
+-- why none was: any fault, since a site may answer any; where the own name is none, that
+abbrev pub RefusesInitFromSite : List ℕ → Fault → Type 0
+RefusesInitFromSite own fault = (refused : Fault) → name_of own ≡ Err refused → fault ≡ refused
+
+abbrev pub WritesInitFromSite : InitFromWords → Option (List ℕ) → Option (List ℕ) → ℕ → Type 0
+WritesInitFromSite words =
+    WritesOfFile (λ file answer. IsFromSite words file × (answer ≡ Done)) (RefusesInitFromSite words.own.now)
+
+-- what is written of a file that is made from another, or from what a site tells
+abbrev pub WritesInitFrom : InitFromWords → Option (List ℕ) → Option (List ℕ) → ℕ → Type 0
+WritesInitFrom words before after status =
+    ((is_site words.from.now ≡ false) × WritesInitFromFile words before after status)
+    ⊎ ((is_site words.from.now ≡ true) × WritesInitFromSite words before after status)
 
 abbrev pub WritesMerge : List ℕ → List ℕ → Option (List ℕ) → Option (List ℕ) → ℕ → Type 0
 WritesMerge path from =

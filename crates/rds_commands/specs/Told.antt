@@ -16,6 +16,7 @@ use Rattle.std.specs.Prelude.{
   None,
   IfSome,
   IsSome,
+  IsOk,
   Ok,
   Err,
 }
@@ -28,6 +29,8 @@ use Rattle.rds_lines.specs.Ahead.{most_given}
 use Rattle.rds_lines.specs.Answering.{WritesAnswers, WritesCut, WritesFront}
 use Rattle.rds_lines.specs.Streams.{NoneFailed, Stream, Tells}
 use Rattle.rds_output.specs.Output.{Writes, fault_line}
+use Rattle.rds_output.specs.Reply.{WritesReply}
+use Rattle.rds_output.specs.declared.reply.Reply.TheVariants.{Done}
 use Rattle.rds_lines.specs.Sim.{IsSimOutput, MayBeSimulated}
 use Rattle.rds_lines.specs.declared.views.Layout.{Layout}
 use Rattle.rds_lines.specs.declared.views.Layout.TheVariants as layout
@@ -69,7 +72,7 @@ use Rattle.rds_listing.specs.Dump.{dump_text}
 use Rattle.rds_session.specs.declared.talk.Side.{Side}
 use Rattle.rds_session.specs.declared.talk.Side.TheVariants.{Client, Server}
 use Rattle.rds_session.specs.declared.version.Version.TheVariants.{Five}
-use Rattle.rds_words.specs.Meaning.{IsAmount}
+use Rattle.rds_words.specs.Meaning.{IsAmount, names_for}
 use Rattle.rds_words.specs.Task.{words_of}
 use Rattle.rds_commands.specs.Unparsed.{WritesUnparsed}
 use Rattle.rds_commands.specs.Visits.{WritesVisit, is_site}
@@ -134,6 +137,18 @@ WritesInit words = WritesOfFile (InitsFile words) (RefusesInit words)
 
 abbrev pub WritesGrow : GrowWords → Option (List ℕ) → Option (List ℕ) → ℕ → Type 0
 WritesGrow words = WritesOfFile (GrowsFile words) (RefusesGrow words)
+
+-- that it was done was written, of words that are names; or some fault, since a site may answer any
+abbrev pub WritesGrowSite : GrowWords → Option (List ℕ) → Option (List ℕ) → ℕ → Type 0
+WritesGrowSite words before after status =
+    (IsOk (names_for words) × WritesReply (Ok Done) before after status)
+    ⊎ ((fault : Fault) × WritesReply (Err fault) before after status)
+
+-- what is written of a file that grows, or of a site
+abbrev pub WritesGrowing : GrowWords → Option (List ℕ) → Option (List ℕ) → ℕ → Type 0
+WritesGrowing words before after status =
+    ((is_site words.file.now ≡ false) × WritesGrow words before after status)
+    ⊎ ((is_site words.file.now ≡ true) × WritesGrowSite words before after status)
 
 abbrev pub WritesCompact : List ℕ → Option (List ℕ) → Option (List ℕ) → ℕ → Type 0
 WritesCompact path = WritesOfFile (CompactsFile path) (RefusesCompact path)
@@ -225,7 +240,7 @@ WritesHere Files reading before after status = WritesText FILES_TEXT.now before 
 WritesHere Faults reading before after status = WritesText FAULTS_TEXT.now before after status
 WritesHere (Init words) reading before after status = WritesInit words before after status
 WritesHere (InitFrom words) reading before after status = WritesInitFrom words before after status
-WritesHere (Grow words) reading before after status = WritesGrow words before after status
+WritesHere (Grow words) reading before after status = WritesGrowing words before after status
 WritesHere (Edit file edit) reading before after status = WritesEdit file.now edit before after status
 WritesHere (EditIfChanged file edit) reading before after status = WritesIfChanged file.now edit before after status
 WritesHere (EditLines file) reading before after status = WritesEditLines file.now reading before after status

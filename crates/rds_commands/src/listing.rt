@@ -18,7 +18,7 @@ ghost use Rattle.rds_commands.specs.Looks.{RefusesGet};
 ghost use Rattle.rds_files.specs.Files.{IsUnread};
 ghost use Rattle.rds_names.specs.declared.fault.Fault.TheVariants.{Memory};
 
-use crate::notes::{note_conflicts, note_file, note_part, note_several};
+use crate::notes::{note_conflicts, note_files, note_part, note_several};
 use crate::offline::status_for;
 use rds_files::{Disk, ReplicaFile};
 use rds_gaps::GapSet;
@@ -222,7 +222,7 @@ pub fn run_diff<H: Disk, W: Write>(rt: &H, path: &str, other: &str, writer: &mut
     match compare_files(rt, path, other) {
         Ok(lines) => write_lines(writer, &lines, FOUND),
         Err(fault) => {
-            note_file(rt, path, fault);
+            note_files(rt, path, other, fault);
             status_for(fault)
         }
     }

@@ -17,7 +17,8 @@ const PATH: &str = "1 to 8 keys with '/' between them, each of 1 to 64 bytes";
 /// Tells which file a command was refused for, and by which fault, unless that was told of the file already.
 pub fn note_file<H: Eprint>(rt: &H, path: &str, fault: Fault) {
     match fault {
-        Fault::Device | Fault::Cut | Fault::Bad | Fault::Extra => (),
+        Fault::Device => note_address(rt, path),
+        Fault::Cut | Fault::Bad | Fault::Extra => (),
         Fault::Unsure => {
             let _ = eprintln!(rt;
                 "{path}: may have the change or not: read it before you give the command again"
@@ -26,6 +27,21 @@ pub fn note_file<H: Eprint>(rt: &H, path: &str, fault: Fault) {
         _ => {
             let _ = eprintln!(rt; "{path}: {fault}");
         }
+    }
+}
+
+/// The same of a command that reads a second file.
+pub fn note_files<H: Eprint>(rt: &H, path: &str, other: &str, fault: Fault) {
+    note_file(rt, path, fault);
+    if let Fault::Device = fault {
+        note_address(rt, other);
+    }
+}
+
+// Tells that a file is to stand where a node's address does.
+fn note_address<H: Eprint>(rt: &H, path: &str) {
+    if is_site(path) {
+        let _ = eprintln!(rt; "{path}: this command takes no node's address, only a file");
     }
 }
 
@@ -78,6 +94,23 @@ pub fn note_init_from<H: Eprint>(rt: &H, words: &InitFromWords<'_>, fault: Fault
     }
 }
 
+/// The same where a site was asked. That what it told is no file wasn't told yet.
+pub fn note_init_from_site<H: Eprint>(rt: &H, words: &InitFromWords<'_>, fault: Fault) {
+    let own = words.own;
+    let from = words.from;
+    match fault {
+        Fault::Cut | Fault::Bad => {
+            let _ = eprintln!(rt; "{from}: what it told isn't an rds file: {fault}");
+        }
+        Fault::SameReplica => {
+            let _ = eprintln!(rt;
+                "'{own}' is used: it is the name of {from}, or that has seen something of it"
+            );
+        }
+        _ => note_init_from(rt, words, fault),
+    }
+}
+
 /// Tells why `grow` was refused.
 pub fn note_grow<H: Disk>(rt: &H, words: &GrowWords<'_>, fault: Fault) {
     match fault {
@@ -89,6 +122,13 @@ pub fn note_grow<H: Disk>(rt: &H, words: &GrowWords<'_>, fault: Fault) {
             None => note_roster(rt, &words.names),
         },
         _ => note_file(rt, words.file, fault),
+    }
+}
+
+/// Tells which names the group of a site has now, where it has refused the next one.
+pub fn note_grown<H: Eprint>(rt: &H, address: &str, names: &[&str]) {
+    for name in names {
+        let _ = eprintln!(rt; "{address}: '{name}' is in the group now");
     }
 }
 
@@ -273,7 +313,7 @@ pub fn note_merge<H: Eprint>(rt: &H, path: &str, from: &str, fault: Fault) {
         Fault::WrongGroup | Fault::WrongRoster | Fault::Conflict { .. } => {
             let _ = eprintln!(rt; "{path} and {from}: {fault}");
         }
-        _ => note_file(rt, path, fault),
+        _ => note_files(rt, path, from, fault),
     }
 }
 

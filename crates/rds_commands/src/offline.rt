@@ -6,13 +6,17 @@ ghost use Rattle.rds_output.specs.Output.{fault_status};
 ghost use Rattle.rds_commands.specs.Offline.{
   AreReadBy,
   ChecksRead,
+  IsFromSite,
   IsUnchecked,
   IsUngiven,
+  RefusesInitFromSite,
   WritesAnswer,
   WritesAnswerTo,
   WritesAsk,
   WritesCheck,
   WritesInitFrom,
+  WritesInitFromFile,
+  WritesInitFromSite,
   WritesMerge,
   WritesTake,
   WritesTakeOf,
@@ -22,16 +26,20 @@ ghost use Rattle.rds_commands.specs.Reading.{IsReadBy, is_piped};
 ghost use Rattle.rds_commands.specs.Visits.{WritesVisitOf};
 
 use crate::letter_notes::{note_answer, note_check, note_fork, note_take};
-use crate::notes::{note_file, note_init_from, note_input, note_merge, note_unwritten};
+use crate::notes::{
+    note_file, note_init_from, note_init_from_site, note_input, note_merge, note_unwritten,
+};
 use crate::outcome::told_taken;
-use crate::site::Visit;
-use crate::visits::write_visit;
+use crate::site::{RunSite, SiteRequest, Visit};
+use crate::visits::{is_site, write_visit};
 use rds_codec::LIMIT;
-use rds_files::{Disk, LockFile};
+use rds_files::{CreatedFile, Disk, LockFile};
+use rds_gaps::GapSet;
 use rds_keep::Counted;
-use rds_names::Fault;
+use rds_names::{Fault, Name};
 use rds_offline::{
-    AnsweredFile, answer_file, ask_file, check_texts, init_from, merge_file, take_file,
+    AnsweredFile, answer_file, ask_file, check_texts, init_from, init_from_copy, merge_file,
+    take_file,
 };
 use rds_output::{Reply, status_of, write_fault, write_reply};
 use rds_words::InitFromWords;
@@ -64,10 +72,12 @@ impl<'a> TakeWords<'a> {
     }
 }
 
-/// Makes a file as `init_from` does, and writes the answer.
-pub fn run_init_from<H: Disk, W: Write>(
+/// Makes a file as `init_from` does, or as `init_from_copy` does of a site's snapshot, and writes the answer. The own
+/// name is judged before the site is called.
+pub fn run_init_from<H: Disk, W: Write, T: RunSite<H>>(
     rt: &H,
     words: &InitFromWords<'_>,
+    site: &T,
     writer: &mut Counted<W>,
 ) -> u8
 where
@@ -76,11 +86,73 @@ where
     ensures status { result ≤ 2 }
     ensures broken { (writer.new.failed ≡ writer.old.failed) ⊎ (result ≡ 1) }
 {
+    if is_site(words.from) {
+        return init_from_site(rt, words, site, writer);
+    }
+    init_from_file(rt, words, writer)
+}
+
+// Makes a file from another.
+fn init_from_file<H: Disk, W: Write>(
+    rt: &H,
+    words: &InitFromWords<'_>,
+    writer: &mut Counted<W>,
+) -> u8
+where
+    H::File: LockFile,
+    ensures written { Tells (WritesInitFromFile words.now) (stream_of W.contents writer.old writer.new) result }
+    ensures status { result ≤ 2 }
+    ensures broken { (writer.new.failed ≡ writer.old.failed) ⊎ (result ≡ 1) }
+{
     match init_from(rt, words.file, words.from, words.own) {
         Ok(_file) => write_reply(writer, Ok(Reply::Done)),
         Err(fault) => {
             note_init_from(rt, words, fault);
             write_reply(writer, Err(fault))
+        }
+    }
+}
+
+// Makes a file from what a site tells.
+fn init_from_site<H: Disk, W: Write, T: RunSite<H>>(
+    rt: &H,
+    words: &InitFromWords<'_>,
+    site: &T,
+    writer: &mut Counted<W>,
+) -> u8
+where
+    H::File: LockFile,
+    ensures written { Tells (WritesInitFromSite words.now) (stream_of W.contents writer.old writer.new) result }
+    ensures status { result ≤ 2 }
+    ensures broken { (writer.new.failed ≡ writer.old.failed) ⊎ (result ≡ 1) }
+{
+    match file_from_site(rt, words, site) {
+        Ok(_file) => write_reply(writer, Ok(Reply::Done)),
+        Err(fault) => write_reply(writer, Err(fault)),
+    }
+}
+
+// The file that is made from what a site tells. Where the site can't be asked, that was told already.
+fn file_from_site<'a, H: Disk, T: RunSite<H>>(
+    rt: &H,
+    words: &InitFromWords<'a>,
+    site: &T,
+) -> Result<CreatedFile<'a, GapSet>, Fault>
+where
+    H::File: LockFile,
+    ensures made { IfOk result (IsFromSite words.now) }
+    ensures fault { IfErr result (RefusesInitFromSite words.now.own.now) }
+{
+    if let Err(fault) = Name::new(words.own) {
+        note_init_from(rt, words, fault);
+        return Err(fault);
+    }
+    let copy = site.call_site(rt, words.from, SiteRequest::Snapshot)?;
+    match init_from_copy(rt, words.file, &copy, words.own) {
+        Ok(file) => Ok(file),
+        Err(fault) => {
+            note_init_from_site(rt, words, fault);
+            Err(fault)
         }
     }
 }

@@ -33,8 +33,8 @@ use std::io::{Read, Write};
 use std::net::Net;
 
 /// Runs the command that the words name, and answers the exit status. The first word is the
-/// program's name, whatever it is. `run` is left to the site, and so is `sync` of an address that begins with `http://`, and
-/// what a command asks where such an address stands in place of a file.
+/// program's name, whatever it is. `run` is left to the site, and so are `sync` and `init --from` of an address that
+/// begins with `http://`, and what a command asks where such an address stands in place of a file.
 ///
 /// A fault is written as the line `fault N: Name` and answered by 1. Words that the command line
 /// doesn't have are `Usage`: that line, then the library's text, and 2. Help and the version are written
@@ -126,8 +126,8 @@ where
         Task::Files => run_text(FILES_TEXT, writer),
         Task::Faults => run_text(FAULTS_TEXT, writer),
         Task::Init(words) => run_init(rt, &words, writer),
-        Task::InitFrom(words) => run_init_from(rt, &words, writer),
-        Task::Grow(words) => run_grow(rt, &words, writer),
+        Task::InitFrom(words) => run_init_from(rt, &words, site, writer),
+        Task::Grow(words) => run_grow(rt, &words, site, writer),
         Task::Edit { file, edit } => run_edit(rt, file, &edit, writer),
         Task::EditIfChanged { file, edit } => run_edit_if_changed(rt, file, &edit, writer),
         Task::EditLines { file } => run_edit_lines(rt, file, reader, writer),

@@ -37,6 +37,10 @@ pub enum SiteRequest<'a> {
         question: &'a [u8],
         answer: &'a [u8],
     },
+    /// That it puts a name last in its roster, as `grow` does of a file.
+    Grow(&'a str),
+    /// The document's snapshot, which is a file of its replica.
+    Snapshot,
 }
 
 /// Runs sites, each over the replica in a file, meets them, and calls them.
@@ -48,6 +52,7 @@ pub trait RunSite<H> {
     fn sync_site(&self, rt: &H, words: SyncWords<'_>, timeout: Option<Duration>) -> Visit
         ensures taken { IfSome result.taken (IsBrought words.entry.file.now) };
 
-    /// Asks the site at the address, `http://HOST:PORT`, and answers what it says.
+    /// Asks the site at the address, `http://HOST:PORT`, and answers what it says. A fault by which it refuses comes back
+    /// as that, such as `BadName` and `BadRoster` of a name. Why there is no answer is told on standard error.
     fn call_site(&self, rt: &H, address: &str, request: SiteRequest<'_>) -> Result<Vec<u8>, Fault>;
 }

@@ -1,21 +1,34 @@
 //! Commands on the replica in a file, and what is written of them.
-ghost use Rattle.std.specs.Prelude.{◌≡◌, ◌≤◌, ◌⊎◌};
+ghost use Rattle.std.specs.Prelude.{◌≡◌, ◌≤◌, ◌⊎◌, IfOk, IsOk};
 ghost use Rattle.rds_lines.specs.Streams.{Tells, stream_of};
+ghost use Rattle.rds_output.specs.declared.reply.Reply.TheVariants.{Done};
+ghost use Rattle.rds_words.specs.Meaning.{names_for};
 ghost use Rattle.rds_commands.specs.Offline.{WritesText};
-ghost use Rattle.rds_commands.specs.Told.{WritesCompact, WritesEdit, WritesGrow, WritesIfChanged, WritesInit, WritesShow};
+ghost use Rattle.rds_commands.specs.Told.{
+  WritesCompact,
+  WritesEdit,
+  WritesGrow,
+  WritesGrowing,
+  WritesIfChanged,
+  WritesInit,
+  WritesShow,
+};
 
 use crate::file_commands::{
     compact_file, edit_file, edit_if_changed, grow_file, init_file, show_file,
 };
 use crate::notes::{
-    note_cleared, note_edit, note_file, note_grow, note_init, note_part, note_unwritten,
+    note_cleared, note_edit, note_file, note_grow, note_grown, note_init, note_part, note_unwritten,
 };
 use crate::outcome::told;
+use crate::site::{RunSite, SiteRequest};
+use crate::visits::is_site;
 use rds_files::{Disk, LockFile};
 use rds_keep::Counted;
 use rds_lines::Layout;
-use rds_output::status_of;
-use rds_words::{EditWords, GrowWords, InitWords};
+use rds_names::Fault;
+use rds_output::{Reply, status_of, write_reply};
+use rds_words::{EditWords, GrowWords, InitWords, names_in};
 use std::io::Write;
 
 /// Makes a file as `init_file` does, and writes the answer.
@@ -30,8 +43,28 @@ where
     told(done, writer, |fault| note_init(rt, words, fault))
 }
 
-/// Adds replicas to a group as `grow_file` does, and writes the answer.
-pub fn run_grow<H: Disk, W: Write>(rt: &H, words: &GrowWords<'_>, writer: &mut Counted<W>) -> u8
+/// Adds replicas to a group as `grow_file` does, or has a site put one name after the other into its group, and writes
+/// the answer. The names are judged before the site is called.
+pub fn run_grow<H: Disk, W: Write, T: RunSite<H>>(
+    rt: &H,
+    words: &GrowWords<'_>,
+    site: &T,
+    writer: &mut Counted<W>,
+) -> u8
+where
+    H::File: LockFile,
+    ensures written { Tells (WritesGrowing words.now) (stream_of W.contents writer.old writer.new) result }
+    ensures status { result ≤ 2 }
+    ensures broken { (writer.new.failed ≡ writer.old.failed) ⊎ (result ≡ 1) }
+{
+    if is_site(words.file) {
+        return write_reply(writer, grow_site(rt, words, site));
+    }
+    grow_here(rt, words, writer)
+}
+
+// Adds replicas to the group of the replica in a file.
+fn grow_here<H: Disk, W: Write>(rt: &H, words: &GrowWords<'_>, writer: &mut Counted<W>) -> u8
 where
     H::File: LockFile,
     ensures written { Tells (WritesGrow words.now) (stream_of W.contents writer.old writer.new) result }
@@ -43,6 +76,39 @@ where
     let status = told(done, writer, |fault| note_grow(rt, words, fault));
     note_unwritten(rt, words.file, changed, status);
     status
+}
+
+// Has a site put names into its group.
+fn grow_site<H: Disk, T: RunSite<H>>(
+    rt: &H,
+    words: &GrowWords<'_>,
+    site: &T,
+) -> Result<Reply, Fault>
+    ensures names { IfOk result (λ _. IsOk (names_for words.now)) }
+    ensures told { IfOk result (λ reply. reply ≡ Done) }
+{
+    if let Err(fault) = names_in(rt.alloc(), &words.names) {
+        note_grow(rt, words, fault);
+        return Err(fault);
+    }
+    ask_for_names(rt, words.file, &words.names, site)?;
+    Ok(Reply::Done)
+}
+
+// Asks a site for one name after the other, up to the first that it refuses. Why it does was told already.
+fn ask_for_names<H: Disk, T: RunSite<H>>(
+    rt: &H,
+    address: &str,
+    names: &[&str],
+    site: &T,
+) -> Result<(), Fault> {
+    for (at, name) in names.iter().enumerate() {
+        if let Err(fault) = site.call_site(rt, address, SiteRequest::Grow(name)) {
+            note_grown(rt, address, &names[..at]);
+            return Err(fault);
+        }
+    }
+    Ok(())
 }
 
 /// Writes a file anew as `compact_file` does, and writes the answer.

@@ -74,6 +74,10 @@ where
                 ask_node(rt, &words, Resource::Answer, "", &[question])
             }
             SiteRequest::Take { question, answer } => give(rt, &words, question, answer),
+            SiteRequest::Grow(name) => {
+                ask_node(rt, &words, Resource::Grow, "", &[name.as_bytes()])
+            }
+            SiteRequest::Snapshot => ask_node(rt, &words, Resource::Snapshot, "", &[]),
         }
     }
 }

@@ -1,15 +1,27 @@
-//! A file that takes a copy of another, and a file that is made from another.
-ghost use Rattle.std.specs.Prelude.{◌≡◌, Err, IfErr, IfOk};
+//! A file that takes a copy of another, and a file that is made from another, or from a copy of its bytes.
+ghost use Rattle.std.specs.Prelude.{◌≡◌, Err, IfErr, IfOk, false};
+ghost use Rattle.rds_files.specs.Files.{is_beside};
 ghost use Rattle.rds_names.specs.declared.fault.Fault.{Fault as Refusal};
 ghost use Rattle.rds_names.specs.Name.{name_of};
-ghost use Rattle.rds_offline.specs.Copies.{InitsFrom, MergesFile, RefusesInitFrom, RefusesMergeFile, RefusesMergeIn};
+ghost use Rattle.rds_offline.specs.Copies.{
+  InitsFrom,
+  InitsFromCopy,
+  MergesFile,
+  RefusesInitFrom,
+  RefusesInitFromCopy,
+  RefusesMergeFile,
+  RefusesMergeIn,
+  RefusesNextIn,
+};
 ghost use Rattle.rds_offline.specs.Merging.{CountsLacking, IsMerged};
+ghost use Rattle.rds_offline.specs.Next.{IsNextOf};
 
 use crate::changes::change_by;
 use crate::merging::merge;
 use crate::next::next_replica;
 use rds_files::{CreatedFile, Disk, LockFile, LockedFile, ReplacedFile, ReplicaFile};
 use rds_gaps::GapSet;
+use rds_keep::decode_stored;
 use rds_names::{Fault, Name};
 use rds_state::Replica;
 
@@ -89,7 +101,47 @@ where
 {
     let name = Name::new(own)?;
     let source: ReplicaFile<'_, GapSet> = ReplicaFile::open_lasting(rt, from)?;
-    let next = next_replica(rt.alloc(), source.kept().view_of(), name)?;
+    let file = create_next(rt, path, source.kept().view_of(), name)?;
+    Ok(file)
+}
+
+/// Makes a file that holds the replica of this name in the group of the replica whose file these bytes are, with all
+/// that that has seen. The name is judged first (`BadName`); then the bytes, which are refused as those of a file are:
+/// `TooLong`, `Cut` or `Bad`. Else it refuses as `init_from` does.
+pub fn init_from_copy<'a, H: Disk>(
+    rt: &H,
+    path: &'a str,
+    copy: &[u8],
+    own: &str,
+) -> Result<CreatedFile<'a, GapSet>, Fault>
+where
+    H::File: LockFile,
+    ensures made { IfOk result (InitsFromCopy path.now copy.now own.now) }
+    ensures name { (fault : Refusal) → name_of own.now ≡ Err fault → result ≡ Err fault }
+    ensures fault { IfErr result (RefusesInitFromCopy copy.now own.now) }
+{
+    let name = Name::new(own)?;
+    match decode_stored(rt.alloc(), copy) {
+        Ok(stored) => create_next(rt, path, stored.kept.view_of(), name),
+        Err(refused) => Err(refused.fault),
+    }
+}
+
+// Makes a file that holds the replica of this name in the group of another, with all that the other has seen.
+fn create_next<'a, H: Disk>(
+    rt: &H,
+    path: &'a str,
+    source: &Replica<GapSet>,
+    name: Name,
+) -> Result<CreatedFile<'a, GapSet>, Fault>
+where
+    H::File: LockFile,
+    ensures path { IfOk result (λ file. file.path ≡ path.now) }
+    ensures place { IfOk result (λ _. is_beside path.now ≡ false) }
+    ensures next { IfOk result (λ file. IsNextOf source.now name file.kept) }
+    ensures fault { IfErr result (RefusesNextIn source.now name) }
+{
+    let next = next_replica(rt.alloc(), source, name)?;
     let file = CreatedFile::create(rt, path, next)?;
     Ok(file)
 }

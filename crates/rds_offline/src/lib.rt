@@ -9,7 +9,7 @@ mod letters;
 mod merging;
 mod next;
 
-pub use copies::{TakenFile, init_from, merge_file};
+pub use copies::{TakenFile, init_from, init_from_copy, merge_file};
 pub use letters::{AnsweredFile, ToldFile, answer_file, ask_file, check_texts, take_file};
 pub use merging::merge;
 pub use next::next_replica;

@@ -2,9 +2,11 @@
 ghost use Rattle.std.specs.Prelude.{◌≡◌};
 
 use rds_commands::{RunSite, SiteRequest, Visit};
+use rds_files::Disk;
 use rds_names::Fault;
 use rds_words::{RunWords, SyncWords, interval_of};
 use std::alloc::Global;
+use std::fs;
 use std::time::Duration;
 
 /// How a site refuses an edit.
@@ -13,7 +15,7 @@ const REFUSAL: &[u8] = b"{\"fault\":8,\"name\":\"CounterFull\",\"line\":1}";
 /// Serves nothing.
 pub struct ToldSite;
 
-impl<H: AllocGlobal> RunSite<H> for ToldSite {
+impl<H: Disk> RunSite<H> for ToldSite {
     // `Usage` for seconds that are none; `Device` for the file f alone, which is every 10 seconds, `Unsure` for all
     // options, with two peers every 86,400, and `NoSuch` for other words.
     fn run_site(&self, _rt: &H, words: RunWords<'_>) -> Fault {
@@ -49,7 +51,8 @@ impl<H: AllocGlobal> RunSite<H> for ToldSite {
     }
 
     // Of the site http://h:1 what is asked, in words; of lines these themselves. The site http://v:1 tells of a path the
-    // path's own text, and refuses an edit. `Device` for other sites.
+    // path's own text, and refuses an edit. The site http://s:1 tells the bytes of the file s as its snapshot. `Device`
+    // for other sites.
     fn call_site(&self, rt: &H, address: &str, request: SiteRequest<'_>) -> Result<Vec<u8>, Fault> {
         let alloc = rt.alloc();
         match (address, request) {
@@ -62,12 +65,16 @@ impl<H: AllocGlobal> RunSite<H> for ToldSite {
             ("http://v:1", SiteRequest::Document(text)) => {
                 Ok(Vec::from_slice(alloc, text.as_bytes())?)
             }
+            ("http://s:1", SiteRequest::Snapshot) => match fs::read(rt, "s") {
+                Ok(bytes) => Ok(bytes),
+                Err(_) => Err(Fault::Device),
+            },
             _ => Err(Fault::Device),
         }
     }
 }
 
-// What is asked, in words.
+// What is asked, in words. Each name is taken but z, which is there.
 fn said(alloc: Global, request: SiteRequest<'_>) -> Result<Vec<u8>, Fault> {
     match request {
         SiteRequest::Edits(lines) => Ok(Vec::from_slice(alloc, lines)?),
@@ -83,6 +90,9 @@ fn said(alloc: Global, request: SiteRequest<'_>) -> Result<Vec<u8>, Fault> {
             text.extend_from_slice(&lettered(alloc, " with", answer)?)?;
             Ok(text)
         }
+        SiteRequest::Grow("z") => Err(Fault::BadRoster),
+        SiteRequest::Grow(name) => named(alloc, "grow", name),
+        SiteRequest::Snapshot => Ok(Vec::from_slice(alloc, b"snapshot")?),
     }
 }
 

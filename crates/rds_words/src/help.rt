@@ -148,10 +148,11 @@ Places: a FILE that is a link is followed, and stays a link. One that has severa
 (hard links), or no write bit, isn't changed: fault 24. One whose name ends in '.new' is
 fault 27.
 
-Nodes: in set, add, del, clear, inc, dec, edit, get, show, conflicts, status, ask, answer
-and take, FILE may be the address of a node, as http://127.0.0.1:7780. The node does it,
-and its answer is printed. A node's token is read from the file whose path RDS_TOKEN_FILE
-has in the environment. --if-changed is for files alone.
+Nodes: in grow, set, add, del, clear, inc, dec, edit, get, show, conflicts, status, ask,
+answer and take, FILE may be the address of a node, as http://127.0.0.1:7780. The node
+does it, and its answer is printed. What --from of 'init' names may be one too. A node's
+token is read from the file whose path RDS_TOKEN_FILE has in the environment.
+--if-changed is for files alone.
 
 Copies: a name is used at one file alone. A copy is for reading, for a backup, or for
 'merge'; never edit one beside the original. To edit at a second place make the next
@@ -462,9 +463,11 @@ free one, will do. Requests, with the commands that print what they are answered
   GET /metrics          what was counted, for Prometheus
   GET /live             a WebSocket, told {\"turn\":N,\"mark\":M,\"paths\":[..]} after changes
   GET /ask              ask
+  GET /snapshot         a file of the replica, from which 'init --from' makes the next one
   POST /edits           edit; the body has its lines
   POST /answer          answer; the body is the question
   POST /take            take; the body: the question's length in 4 bytes, question, answer
+  POST /grow            grow; the body is one name
   POST /login           a cookie for the token that the body is
 Answers on the document have an ETag; where If-None-Match has it, 304 is the answer.
 With --peer it meets that node, of another replica, after each change here and every
@@ -568,7 +571,7 @@ pub const NAMES_HELP: &str =
     "The names of all replicas, in order: a to z first, then a to z, 0 to 9 and '-'";
 
 pub const INIT_FROM_HELP: &str =
-    "A file of the group, from which the new one gets its names and all that was seen";
+    "A file of the group, or a node, from which the new one gets its names and all that was seen";
 
 pub const NEW_NAMES_HELP: &str =
     "The names of the new replicas, in order: a to z first, then a to z, 0 to 9 and '-'";

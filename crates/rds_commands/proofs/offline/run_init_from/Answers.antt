@@ -1,6 +1,5 @@
-use Rattle.std.proofs.Common.{inl, refl}
-use Rattle.rds_output.specs.declared.reply.Reply.TheVariants.{Done}
+use Rattle.std.proofs.Common.{◌∙◌, inr, sym}
 use Rattle.rds_commands.proofs.offline.run_init_from.Goals as goal
 
-pub returns-in-Ok-clause-written : goal.returns-in-Ok-clause-written
-returns-in-Ok-clause-written g c = λ wrote. inl (c.in-Ok._file, Done, (c.in-Ok.ensures.made, refl), c.write_reply.ensures.written wrote)
+pub returns-then-is_site-clause-written : goal.returns-then-is_site-clause-written
+returns-then-is_site-clause-written g c = λ wrote. inr (sym c.is_site.ensures ∙ c.if-is_site.true, c.init_from_site.ensures.written wrote)

@@ -1,9 +1,9 @@
-use Rattle.rds_commands.specs.Edits.{GrowsFile, RefusesGrow}
-use Rattle.rds_lines.specs.Streams.{stream_of}
-use Rattle.rds_commands.proofs.Entered.{told_of_file}
+use Rattle.std.proofs.Common.{◌∙◌, inr, sym}
+use Rattle.rds_commands.proofs.Growing.{told_by_site}
 use Rattle.rds_commands.proofs.telling.run_grow.Goals as goal
 
-pub returns-clause-written : goal.returns-clause-written
-returns-clause-written g c =
-    told_of_file (GrowsFile c.args.words.now) (RefusesGrow c.args.words.now) c.grow_file-done.result (stream_of g.W.Write.contents c.args.writer.now c.told-status.new.writer) c.told-status.result
-    c.grow_file-done.ensures.grown c.grow_file-done.ensures.fault c.told-status.ensures.written
+pub returns-then-is_site-clause-written : goal.returns-then-is_site-clause-written
+returns-then-is_site-clause-written g c = λ wrote. inr (
+  sym c.is_site.ensures ∙ c.if-is_site.true,
+  told_by_site c.args.words.now c.grow_site.result _ _ _ c.grow_site.ensures.names c.grow_site.ensures.told (c.write_reply.ensures.written wrote),
+)
