@@ -82,7 +82,7 @@ pub fn renew<H: Disk, S: DotSet>(
     replica: &Replica<S>,
     path: &str,
     file: &mut H::File,
-    length: Option<u64>,
+    size: Option<u64>,
 ) -> Result<Renewed<S>, Fault>
 where
     H::File: LockFile,
@@ -92,7 +92,7 @@ where
     ensures long { LIMIT < length (snapshot_text replica.now) → IfErr result IsTooLongOrLost }
 {
     let name = name_beside(rt, path)?;
-    if check_standing(rt, path, file, length).is_err() {
+    if check_standing(rt, path, file, size).is_err() {
         return Err(unkept(rt.alloc(), replica));
     }
     match Beside::create_locked(rt, name.as_str(), path, file) {
