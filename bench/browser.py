@@ -131,6 +131,17 @@ class Browser:
         scheme = {"name": "prefers-color-scheme", "value": "dark" if is_dark else "light"}
         self.ask("Emulation.setEmulatedMedia", features=[scheme, {"name": "hover", "value": "hover"}])
 
+    @contextlib.contextmanager
+    def begun_with(self, script):
+        """Meanwhile each page runs this before its own script."""
+        begun = self.ask("Page.addScriptToEvaluateOnNewDocument", source=script)
+        yield
+        self.ask("Page.removeScriptToEvaluateOnNewDocument", **begun)
+
+    def save_in(self, folder):
+        """Lets what is saved from now on go to this folder."""
+        self.ask("Browser.setDownloadBehavior", behavior="allow", downloadPath=str(folder))
+
     def shoot(self, path):
         """Leaves what the page looks like as a PNG."""
         pathlib.Path(path).write_bytes(base64.b64decode(self.ask("Page.captureScreenshot", format="png")["data"]))

@@ -21,8 +21,11 @@ macro_rules! with_markup {
 <header>
 <div>
 <h1><span id="group">rds</span><small id="own"></small></h1>
+<div id="state">
 <p id="link" role="status"><span id="link-text">Connecting</span>
 <button id="again" type="button" hidden>Try now</button></p>
+<a id="copy" href="/snapshot" download="copy.rds" title="The document as a file, for a backup" hidden>Save a copy</a>
+</div>
 </div>
 <div>
 <p id="facts"></p>

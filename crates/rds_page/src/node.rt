@@ -9,8 +9,12 @@ macro_rules! with_node {
 const PART = 200; // so many rows of a list are shown at first, and with each "more"
 const CHIPS = 50; // so many elements of a set are shown at first
 const REST = 150; // the document is asked for again after this many milliseconds at the least
-const TRY_FIRST = 500;
+const RARE = 50; // what costs by the whole document is asked for once in so many times what it took
+const RARE_LEAST = 1000;
+const RARE_MOST = 60000;
+const TRY_FIRST = 250;
 const TRY_LAST = 15000;
+const PATIENCE = 1000; // a link that is lost is told when it hasn't come back in this many milliseconds
 const LOOK = 20000; // the node is asked whether it is there after this many milliseconds, and may take as many
 const MOST_TOUCHED = 1000; // where more paths than this have changed, everything is asked for again
 const KEY_BYTES = 64;
@@ -128,7 +132,10 @@ function checkKeys(path) {
 
 // ---- the node
 
-async function ask(where, body) {
+const ask = async (where, body) => (await answered(where, body)).text;
+
+// What the node answers, and the mark of the document, which is the tag of what it shows.
+async function answered(where, body) {
   let answer, text;
   try {
     answer = await fetch(where, body === undefined ? { cache: "no-cache", signal: AbortSignal.timeout(LOOK) }
@@ -143,7 +150,7 @@ async function ask(where, body) {
     throw new Refused("The node asks for a token.");
   }
   if (!answer.ok) throw new Refused(refusal(text) || `The node answered ${answer.status}.`);
-  return text;
+  return { text, mark: answer.headers.get("ETag")?.match(/[0-9a-f]{32}/)?.[0] };
 }
 
 function refusal(text) {
@@ -177,31 +184,64 @@ function rested(work, rest) {
     while (isDue) {
       isDue = false;
       const begun = performance.now();
-      await work().catch(error => {
-        ignoreRefusal(error);
-        if (socket) toast(error.message);
-      });
+      await work().catch(tellRefusal);
       await new Promise(done => setTimeout(done, Math.max(rest, performance.now() - begun)));
     }
     isBusy = false;
   };
 }
 
+// Does the work where it is due, once somebody looks: not before 50 times as long as it took last, and a second at the
+// least and a minute at the most. What is refused stays due.
+function rarely(work) {
+  let isDue = false, isBusy = false, next = 0, timer = 0;
+  const act = async () => {
+    clearTimeout(timer);
+    if (!isDue || isBusy || isUnseen()) return;
+    const begun = performance.now();
+    if (begun < next) {
+      timer = setTimeout(act, next - begun);
+      return;
+    }
+    isDue = false;
+    isBusy = true;
+    const isDone = await work().then(() => true, tellRefusal);
+    const ended = performance.now();
+    next = ended + Math.min(Math.max(RARE * (ended - begun), RARE_LEAST), RARE_MOST);
+    isBusy = false;
+    if (isDone) act();
+    else isDue = true;
+  };
+  return { act, due: () => { isDue = true; } };
+}
+
+// Whether nobody sees the document.
+const isUnseen = () => document.hidden || !at("login").hidden;
+
 function ignoreRefusal(error) {
   if (!(error instanceof Refused)) throw error;
 }
 
+// Tells of a refusal, unless it is that of a lost link, which is told by itself.
+function tellRefusal(error) {
+  ignoreRefusal(error);
+  if (socket) toast(error.message);
+}
+
 // ---- following
 
-let socket = null, opened = 0, isConnecting = false, again = 0, wait = TRY_FIRST, turn = 0;
+let socket = null, opened = 0, lost = -PATIENCE, isConnecting = false, again = 0, telling = 0, wait = TRY_FIRST;
+
+// The turn and the mark that were told last, and whether all that changed until then is touched.
+let turn = 0, mark, isCaughtUp = false;
 
 async function connect() {
-  if (socket || isConnecting) return;
+  if (socket || isConnecting || !at("login").hidden) return;
   isConnecting = true;
   clearTimeout(again);
   tellLink("", "Connecting");
   try {
-    await loadStatus();
+    await catchUp();
     listen();
   } catch (error) {
     ignoreRefusal(error);
@@ -212,33 +252,52 @@ async function connect() {
 }
 
 function listen() {
-  refreshAll();
   opened = turn = 0;
+  isCaughtUp = false;
+  for (const id of ["tools", "keys", "copy"]) at(id).hidden = false;
   socket = new WebSocket(`${location.protocol === "https:" ? "wss" : "ws"}://${location.host}/live`);
   socket.onopen = () => {
     opened = performance.now();
     tellLink("live", "Live");
-    refreshAll();
+    follow();
   };
   socket.onmessage = event => hear(JSON.parse(event.data));
   socket.onclose = lose;
+  if (performance.now() - lost > PATIENCE) overview.due();
+  refresh();
+}
+
+// Asks whether anything has changed that wasn't told: then it may be anything. Each answer has the mark, and this one
+// is short.
+async function catchUp() {
+  const before = turn, now = (await answered("/value/-")).mark;
+  if (turn !== before || now && now === mark) return;
+  mark = now;
+  touch(null);
+  overview.due();
+}
+
+async function follow() {
+  await catchUp().then(() => { isCaughtUp = true; }, tellRefusal);
+  if (socket) refresh();
 }
 
 // The news of a turn: the paths that it changed, or null where that may be any. A turn that wasn't told is missed.
 function hear(news) {
-  const isNext = turn === 0 || news.turn === turn + 1;
-  turn = news.turn;
+  const isNext = turn === 0 ? isCaughtUp : news.turn === turn + 1;
+  ({ turn, mark } = news);
   touch(isNext && Array.isArray(news.paths) ? news.paths : null);
+  overview.due();
   refresh();
-  refreshRivals();
 }
 
 function lose() {
   if (!socket) return;
-  const lost = socket;
-  socket = lost.onopen = lost.onmessage = lost.onclose = null;
-  lost.close();
-  if (opened > 0 && performance.now() - opened > 5000) wait = TRY_FIRST;
+  const gone = socket;
+  socket = gone.onopen = gone.onmessage = gone.onclose = null;
+  gone.close();
+  if (opened > 0) lost = performance.now();
+  if (opened > 0 && lost - opened > 5000) wait = TRY_FIRST;
   connectLater(opened > 0 ? UNREACHED : "The node doesn't tell of changes.");
 }
 
@@ -250,33 +309,62 @@ function connectLater(text) {
   again = setTimeout(connect, pause);
 }
 
+// Tells how the link stands. That it is lost waits a while, since many a link comes back at once.
 function tellLink(state, text) {
+  clearTimeout(telling);
+  const left = lost + PATIENCE - performance.now();
+  if (state !== "live" && left > 0) {
+    telling = setTimeout(tellLink, left, state, text);
+    return;
+  }
   at("link").className = state;
   at("link-text").textContent = text;
   at("again").hidden = state !== "lost";
 }
 
-// What the node has counted under a name; 0 where it doesn't tell.
-const countOf = (metrics, name) => Number(metrics.match(new RegExp(`^${name} (\\d+)$`, "m"))?.[1] ?? 0);
+// ---- the head
+
+let status = null, counts = null;
+
+// What costs by the whole document.
+const overview = rarely(async () => {
+  await loadStatus();
+  await loadRivals();
+});
 
 async function loadStatus() {
-  const [text, metrics] = await Promise.all([ask("/status"), ask("/metrics")]);
-  const status = JSON.parse(text), peers = countOf(metrics, "rds_peers"), forked = countOf(metrics, "rds_peers_forked");
+  status = JSON.parse(await ask("/status"));
   document.title = `${status.group} – ${status.own}`;
   at("group").textContent = status.group;
   at("own").textContent = `at ${status.own}`;
-  const names = status.names.slice(0, 12);
-  if (status.names.length > names.length) names.push(`and ${status.names.length - names.length} more`);
-  const facts = [counted(status.live, "entry", "entries")];
-  if (status.counters > 0) facts.push(counted(status.counters, "counter", "counters"));
-  facts.push(`${status.names.length === 1 ? "replica" : "replicas"} ${names.join(", ")}`);
-  if (peers > 0) facts.push(`${countOf(metrics, "rds_peers_met")} of ${counted(peers, "peer", "peers")} met`);
-  at("facts").textContent = facts.join(" · ");
+  at("copy").download = `${status.group}-${status.own}.rds`;
+  drawFacts();
+}
+
+// What the node has counted. This costs little.
+async function loadCounts() {
+  const text = await ask("/metrics");
+  const countOf = name => Number(text.match(new RegExp(`^rds_${name} (\\d+)$`, "m"))?.[1] ?? 0);
+  counts = { live: countOf("live_entries"), peers: countOf("peers"), met: countOf("peers_met") };
+  const forked = countOf("peers_forked");
   at("forked").hidden = forked === 0;
   at("forked").textContent = `${counted(forked, "peer has", "peers have")} seen the same and ${forked === 1 ? "holds" :
     "hold"} other entries: two replicas share a name, or a backup was put back and edited.`;
-  at("tools").hidden = at("keys").hidden = false;
+  drawFacts();
 }
+
+function drawFacts() {
+  if (!status || !counts) return;
+  const names = status.names.slice(0, 12);
+  if (status.names.length > names.length) names.push(`and ${status.names.length - names.length} more`);
+  const facts = [counted(counts.live, "entry", "entries")];
+  if (status.counters > 0) facts.push(counted(status.counters, "counter", "counters"));
+  facts.push(`${status.names.length === 1 ? "replica" : "replicas"} ${names.join(", ")}`);
+  if (counts.peers > 0) facts.push(`${counts.met} of ${counted(counts.peers, "peer", "peers")} met`);
+  at("facts").textContent = facts.join(" · ");
+}
+
+// ---- what has changed
 
 // The paths that have changed since they were asked for; null where that may be any.
 let touched = null;
@@ -290,41 +378,60 @@ function touch(paths) {
 const isAlong = (path, other) => path === "" || path === other || other.startsWith(`${path}/`);
 const isTouched = (path, paths) => !paths || [...paths].some(other => isAlong(path, other) || isAlong(other, path));
 
-// Asks again for what is open and has changed.
+// Asks again for what is open and has changed, and then for what costs more.
 const refresh = rested(async () => {
-  if (document.hidden || !at("login").hidden) return;
+  if (isUnseen()) return;
   const paths = touched;
   touched = new Set();
   try {
     const open = [...levels.values()].filter(level => isTouched(level.path, paths));
-    await Promise.all([loadStatus(), ...open.map(level => level.load())]);
+    await Promise.all([loadCounts(), ...open.map(level => level.load())]);
   } catch (error) {
     touched = null;
     throw error;
   }
+  overview.act();
 }, REST);
-
-function refreshAll() {
-  touch(null);
-  refresh();
-  refreshRivals();
-}
 
 // ---- registers with several values
 
-let rivals = [], rival = 0;
+let rivals = new Set(), rival = 0, rivalsMark;
 
-const refreshRivals = rested(async () => {
-  if (document.hidden || !at("login").hidden) return;
-  rivals = linesOf(await ask("/conflicts"));
-  at("rivals").hidden = rivals.length === 0;
-  at("rivals-text").textContent = rivals.length === 1 ? "One register has more than one value." :
-    `${rivals.length.toLocaleString("en")} registers have more than one value.`;
-}, 1000);
+// All of them are asked for where the document isn't as it was.
+async function loadRivals() {
+  if (rivalsMark && rivalsMark === mark) return;
+  const { text, mark: asOf } = await answered("/conflicts");
+  rivalsMark = asOf;
+  rivals = new Set(linesOf(text).map(line => JSON.parse(line).path));
+  for (const level of levels.values()) noteRivals(level);
+  drawRivals();
+}
+
+// What a list that is there tells of them: which registers in it have several values, and what is gone.
+function noteRivals({ path, items, answered: times }) {
+  if (times === 0) return;
+  const start = path === "" ? "" : `${path}/`;
+  const maps = new Set(), several = new Set();
+  for (const { kind, key, values } of items) {
+    if (kind === "maps") maps.add(start + key);
+    else if (kind === "regs" && values.length > 1) several.add(start + key);
+  }
+  for (const each of rivals) {
+    const end = each.indexOf("/", start.length);
+    const isThere = end < 0 ? several.has(each) : maps.has(each.slice(0, end));
+    if (each.startsWith(start) && !isThere) rivals.delete(each);
+  }
+  for (const each of several) rivals.add(each);
+}
+
+function drawRivals() {
+  at("rivals").hidden = rivals.size === 0;
+  at("rivals-text").textContent = rivals.size === 1 ? "One register has more than one value." :
+    `${rivals.size.toLocaleString("en")} registers have more than one value.`;
+}
 
 async function showNextRival() {
-  if (rivals.length === 0) return;
-  await reveal(JSON.parse(rivals[rival++ % rivals.length]).path, "regs");
+  if (rivals.size > 0) await reveal([...rivals][rival++ % rivals.size], "regs");
 }
 
 // ---- the token
@@ -332,7 +439,7 @@ async function showNextRival() {
 function askForToken() {
   if (!at("login").hidden) return;
   at("login").hidden = false;
-  for (const id of ["tree", "tools", "keys", "rivals", "forked"]) at(id).hidden = true;
+  for (const id of ["tree", "tools", "keys", "rivals", "forked", "copy"]) at(id).hidden = true;
   tellLink("", "Waiting for a token");
   lose();
   at("token").focus();
@@ -356,6 +463,7 @@ async function enter(event) {
   at("token").value = "";
   at("login").hidden = true;
   at("tree").hidden = false;
+  drawRivals();
   connect();
 }
 

@@ -265,11 +265,13 @@ document.addEventListener("keydown", event => {
   event.preventDefault();
 });
 document.addEventListener("visibilitychange", () => {
-  if (!document.hidden) refreshAll();
+  if (document.hidden) return;
+  if (socket) follow();
+  else connect();
 });
 addEventListener("online", connect);
 setInterval(() => {
-  if (socket && !document.hidden) loadStatus().catch(ignoreRefusal);
+  if (socket && !isUnseen()) loadCounts().catch(ignoreRefusal);
 }, LOOK);
 
 new Level("", tree);

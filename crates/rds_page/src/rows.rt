@@ -31,6 +31,8 @@ class Level {
     this.answered = turn;
     this.items = items;
     this.draw();
+    noteRivals(this);
+    drawRivals();
   }
 
   // A map "." or ".." of the root has no address of its own.
@@ -409,7 +411,6 @@ class Row {
       await edit(["set", this.path, json(value)]);
       if (had) this.item.focus();
       await this.level.load();
-      refreshRivals();
     });
   }
 

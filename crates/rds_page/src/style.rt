@@ -36,11 +36,14 @@ h1 { margin: 0; font-size: 1.5rem; font-weight: 650; letter-spacing: -.015em; li
 h1 small { margin-left: .625rem; font-size: .9375rem; font-weight: 400; letter-spacing: 0; color: var(--soft); }
 h1, #facts { overflow-wrap: anywhere; }
 #facts { flex: 1 1 16rem; color: var(--soft); }
+#state { display: flex; flex-wrap: wrap; gap: .25rem 1.25rem; align-items: center; }
 #link { display: flex; gap: .5rem; align-items: center; color: var(--soft); }
 #link::before { content: ""; width: .5rem; height: .5rem; border-radius: 50%; background: var(--faint); flex: none; }
 #link.live::before { background: var(--good); }
 #link.lost { color: var(--bad); }
 #link.lost::before { background: var(--bad); }
+#copy { color: var(--accent); text-decoration: none; border-radius: .25rem; }
+#copy:hover { text-decoration: underline; }
 #tools { display: flex; gap: .5rem; }
 button, input, select, textarea {
   font: inherit; color: inherit; background: var(--card); border: 1px solid var(--line); border-radius: .375rem;
