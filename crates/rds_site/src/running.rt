@@ -8,6 +8,7 @@ use crate::arrivals::Door;
 use crate::destinations::find_peers;
 use crate::logging::{Log, LoggedSite};
 use crate::peer_table::Peers;
+use crate::reserve::Reserve;
 use crate::secrets::read_secret;
 use crate::table::Clients;
 use crate::troubles::Trouble;
@@ -41,9 +42,10 @@ use std::time::Instant;
 /// Standard error has a line once the site serves, and one that says why it ended, but where memory lacked. What a
 /// client or a peer does wrong ends its connection alone.
 ///
-/// There are at most 1,024 clients; more are let go at once. Each has 30 seconds for a whole request, and to take a
-/// byte of an answer. A body has at most 64 MB, and what waits unread of all clients 256 MB: who sends more is let go.
-/// A listener for which 256 kB wait is let go.
+/// There are at most 1,024 clients; more are let go at once. However many descriptors connections take, enough are left
+/// to keep the document. Each client has 30 seconds for a whole request, and to take a byte of an answer. A body has at
+/// most 64 MB, and what waits unread of all clients 256 MB: who sends more is let go. A listener for which 256 kB wait
+/// is let go.
 ///
 /// Where the words ask for a log, standard output has a line for each request that the site was asked: the client's
 /// address, the method, the target, the status, how many bytes the answer's body has, and how many microseconds passed
@@ -91,6 +93,8 @@ where
     file.keep(rt)?;
     let (door, now) = open_door(rt, address)?;
     let peers = Peers::new(rt.alloc(), destinations, words.every, now)?;
+    let mut reserve = Reserve::new(rt.alloc())?;
+    reserve.fill(rt);
     let address = door.address().unwrap_or(address);
     let access = Access::new(address, token, words.is_open);
     let logged = LoggedSite {
@@ -99,7 +103,7 @@ where
         client: address,
     };
     let _ = eprintln!(rt; "listening on http://{address}/");
-    Ok(Turns::new(logged, door, clients, peers, now))
+    Ok(Turns::new(logged, door, clients, peers, reserve, now))
 }
 
 // The log, where one is wished.

@@ -5,6 +5,7 @@ use crate::arrivals::Door;
 use crate::committed::{Committed, commit};
 use crate::logging::LoggedSite;
 use crate::peer_table::Peers;
+use crate::reserve::Reserve;
 use crate::table::Clients;
 use crate::troubles::Trouble;
 use rds_files::{Disk, LockFile};
@@ -19,6 +20,7 @@ pub struct Turns<'a, H: Disk> {
     door: Door,
     clients: Clients,
     peers: Peers<'a>,
+    reserve: Reserve<H>,
     // The time, when it was last looked at, and when clients were last looked at for being overdue.
     now: Instant,
     swept: Instant,
@@ -31,6 +33,7 @@ impl<H: Disk> Drop for Turns<'_, H> {
             door: _door,
             clients: _clients,
             peers: _peers,
+            reserve: _reserve,
             now: _,
             swept: _,
         } = self;
@@ -47,6 +50,7 @@ where
         door: Door,
         clients: Clients,
         peers: Peers<'a>,
+        reserve: Reserve<H>,
         now: Instant,
     ) -> Turns<'a, H>
         ensures { result.logged ≡ logged.entry }
@@ -56,6 +60,7 @@ where
             door,
             clients,
             peers,
+            reserve,
             now,
             swept: now,
         }
@@ -80,12 +85,17 @@ where
         Ok(())
     }
 
-    // Keeps what changed, and sends what is due. Answers when it was kept.
+    // Keeps what changed, and sends what is due. Answers when it was kept. Connections may have taken all other
+    // descriptors, so those in reserve are let go for it.
     fn send(&mut self, rt: &H) -> Result<Instant, Fault>
     where
         H: Net,
     {
+        if self.logged.site.has_changed() {
+            self.reserve.let_go();
+        }
         let committed = commit(rt, &mut self.logged.site)?;
+        self.reserve.fill(rt);
         let kept = Instant::now(rt).unwrap_or(self.now);
         tell(&committed, &mut self.clients, self.now);
         self.peers
