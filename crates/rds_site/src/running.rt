@@ -42,6 +42,9 @@ use std::time::Instant;
 /// Standard error has a line once the site serves, and one that says why it ended, but where memory lacked. What a
 /// client or a peer does wrong ends its connection alone.
 ///
+/// Where a meeting shows that the file is older than what its replica has sent, edits are refused from then on (409, as
+/// the fault `OwnAhead`), and standard error says so: each would fork the replica.
+///
 /// There are at most 1,024 clients; more are let go at once. However many descriptors connections take, enough are left
 /// to keep the document. Each client has 30 seconds for a whole request, and to take a byte of an answer. A body has at
 /// most 64 MB, and what waits unread of all clients 256 MB: who sends more is let go. A listener for which 256 kB wait
@@ -98,9 +101,11 @@ where
     let address = door.address().unwrap_or(address);
     let access = Access::new(address, token, words.is_open);
     let logged = LoggedSite {
+        file: words.file,
         site: Site::new(rt.alloc(), file, access),
         log: log_of(rt.alloc(), words.log),
         client: address,
+        is_behind: false,
     };
     let _ = eprintln!(rt; "listening on http://{address}/");
     Ok(Turns::new(logged, door, clients, peers, reserve, now))

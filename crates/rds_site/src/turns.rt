@@ -2,6 +2,7 @@
 ghost use Rattle.std.specs.Prelude.{◌≡◌};
 
 use crate::arrivals::Door;
+use crate::behind::tell_behind;
 use crate::committed::{Committed, commit};
 use crate::logging::LoggedSite;
 use crate::peer_table::Peers;
@@ -114,7 +115,9 @@ where
     }
 
     // Answers in memory what clients and peers say, and begins what is due. What clients change is due to all peers.
+    // Where it shows that the file is behind, that is told once.
     fn hear(&mut self, rt: &H) {
+        let was_behind = self.logged.is_behind;
         let site = &mut self.logged.site;
         site.note_clients(self.clients.len(), self.clients.listeners());
         site.note_peers(self.peers.counts());
@@ -124,6 +127,10 @@ where
         }
         self.peers.hear(rt, &mut self.logged.site, self.now);
         self.peers.begin(rt, &mut self.logged.site, self.now);
+        self.logged.is_behind |= self.peers.show_behind();
+        if self.logged.is_behind && !was_behind {
+            tell_behind(rt, self.logged.file);
+        }
     }
 
     // Waits for what comes or is due, and lets those in that wait.
