@@ -37,8 +37,8 @@ use std::time::Instant;
 /// changed.
 ///
 /// `Usage` where the words name no place for a site or no peers, or the token's file has none. What
-/// [`DocumentFile::open`] and [`DocumentFile::keep`] refuse with. `Device` where the token's file can't be read, a peer
-/// isn't found, the address can't be had, or the system can't be waited for. `Memory` where there is none to begin.
+/// [`DocumentFile::open`] and [`DocumentFile::keep`] refuse with. `Device` where the token's file can't be read, the
+/// address can't be had, or the system can't be waited for. `Memory` where there is none to begin.
 /// Standard error has a line once the site serves, and one that says why it ended, but where memory lacked. What a
 /// client or a peer does wrong ends its connection alone.
 ///
@@ -55,9 +55,10 @@ use std::time::Instant;
 /// from when the turn began until its changes were kept. It is written once the answer was sent, and where it can't be
 /// the site goes on. What is no request of HTTP has no line.
 ///
-/// There are at most 64 peers. One that can't be met, that refuses, or that brings what is refused is tried again after
-/// 1, 2, 4, .. up to 60 seconds. Standard error has a line where that begins and ends. The responses that are under way
-/// have at most 256 MB. Every 30 seconds a byte has to go or come.
+/// There are at most 64 peers. One that can't be found or met, that refuses, or that brings what is refused is tried
+/// again after 1, 2, 4, .. up to 60 seconds. Its name is looked up again where no connection could be made. Standard
+/// error has a line where that begins and ends. The responses that are under way have at most 256 MB. Every 30 seconds
+/// a byte has to go or come.
 pub fn run_site<H: Disk + Net + RandomSource + Print>(rt: &H, words: &SiteWords<'_>) -> Fault
 where
     H::File: LockFile,
