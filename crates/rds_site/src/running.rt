@@ -14,7 +14,7 @@ use crate::table::Clients;
 use crate::troubles::Trouble;
 use crate::turns::Turns;
 use crate::words::SiteWords;
-use rds_files::{Disk, HolderNote, LockFile};
+use rds_files::{Disk, HolderNote, LockFile, check_writing};
 use rds_http::{Access, Site};
 use rds_names::Fault;
 use rds_store::DocumentFile;
@@ -38,9 +38,9 @@ use std::time::Instant;
 ///
 /// `Usage` where the words name no place for a site or no peers, or the token's file has none. What
 /// [`DocumentFile::open`] and [`DocumentFile::keep`] refuse with. `Device` where the token's file can't be read, the
-/// address can't be had, or the system can't be waited for. `Memory` where there is none to begin.
-/// Standard error has a line once the site serves, and one that says why it ended, but where memory lacked. What a
-/// client or a peer does wrong ends its connection alone.
+/// document's can't be written, the address can't be had, or the system can't be waited for. `Memory` where there is
+/// none to begin. Standard error has a line once the site serves, and one that says why it ended, but where memory
+/// lacked. What a client or a peer does wrong ends its connection alone.
 ///
 /// Where a meeting shows that the file is older than what its replica has sent, edits are refused from then on (409, as
 /// the fault `OwnAhead`), and standard error says so: each would fork the replica.
@@ -94,6 +94,7 @@ where
     let destinations = find_peers(rt, words.peers, address, token.as_ref())?;
     let clients = Clients::new(rt.alloc())?;
     let mut file = DocumentFile::open(rt, words.file)?;
+    check_writing(rt, words.file)?;
     file.keep(rt)?;
     let (door, now) = open_door(rt, address)?;
     let peers = Peers::new(rt.alloc(), destinations, words.every, now)?;
