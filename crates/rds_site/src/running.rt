@@ -48,7 +48,7 @@ use std::time::Instant;
 /// There are at most 1,024 clients; more are let go at once. However many descriptors connections take, enough are left
 /// to keep the document. Each client has 30 seconds for a whole request, and to take a byte of an answer. A body has at
 /// most 64 MB, and what waits unread of all clients 256 MB: who sends more is let go. A listener for which 256 kB wait
-/// is let go.
+/// is let go, and one that was sent nothing for 20 seconds is sent a ping.
 ///
 /// Where the words ask for a log, standard output has a line for each request that the site was asked: the client's
 /// address, the method, the target, the status, how many bytes the answer's body has, and how many microseconds passed

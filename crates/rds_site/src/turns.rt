@@ -145,7 +145,8 @@ where
         Ok(())
     }
 
-    // Once a second lets those go that are overdue, and tries again to accept those that couldn't be.
+    // Once a second lets those go that are overdue, has quiet listeners be sent a ping, and tries again to accept those
+    // that couldn't be.
     fn sweep(&mut self) {
         if self.now.duration_since(self.swept).as_secs() != 0 {
             self.clients.sweep(self.now);
