@@ -22,7 +22,7 @@ pub struct AskWords<'a> {
 /// What the request asks for may be done where there is no response.
 ///
 /// `Usage` where the text names no node, or the token's file has none. `Device` where the node can't be reached or waited
-/// for, or lets wait too long; `OutOfTurn` where it doesn't speak HTTP/1.1; `TooLong` of a response. Where it refuses the
+/// for, or lets wait too long; `OutOfTurn` where it is no node; `TooLong` of a response. Where it refuses the
 /// request that is its own fault; `PeerEnded` where it tells none, where it says that the document is older than what is
 /// taken, or ends the connection. Standard error has a line that says why.
 pub fn ask_node<H: Disk + Net>(

@@ -1,7 +1,6 @@
 //! Calls of a node: a request and its response, over a connection of their own that is waited for.
 use crate::destinations::{Destination, find_node};
-use crate::exchanges::{DONE, NOT_MODIFIED};
-use crate::requests::{Request, Response, Talk};
+use crate::requests::{DONE, NOT_MODIFIED, Request, Response, Talk};
 use crate::troubles::{Trouble, tell};
 use bytes::Buf;
 use rds_files::Disk;

@@ -12,6 +12,9 @@ use std::{io, mem};
 /// A client has so many seconds for a whole request, and for taking a byte of its answer.
 const PATIENCE: u64 = 30;
 
+/// A listener to which nothing was sent for so many seconds is sent a ping.
+const QUIET: u64 = 20;
+
 /// Once so many bytes were read of a client in one turn, others come first.
 const MOST_HEARD: usize = 1_048_576;
 
@@ -123,6 +126,15 @@ impl Client {
     pub fn is_overdue(&self, now: Instant) -> bool {
         let may_wait = self.is_listener() || self.is_resting;
         !may_wait && PATIENCE <= now.duration_since(self.since).as_secs()
+    }
+
+    /// Has it be sent a ping, where it is a listener to which nothing was sent for a while. Answers whether it is.
+    pub fn ping(&mut self, now: Instant) -> bool {
+        let is_quiet = QUIET <= now.duration_since(self.since).as_secs();
+        match &mut self.talk {
+            Talk::Live(listener) => is_quiet && listener.ping(),
+            Talk::Http(_) | Talk::Last => false,
+        }
     }
 
     /// Whether what it was answered last made others wait.

@@ -3,11 +3,12 @@ ghost use Rattle.std.specs.Prelude.{◌≡◌, ◌<◌, ◌++◌, Err, codes, le
 ghost use Rattle.rds_names.specs.declared.fault.Fault.TheVariants.{Usage};
 ghost use Rattle.rds_site.specs.declared.destinations.TheConstants.{MOST_PEERS};
 
-use crate::troubles::Trouble;
+use crate::troubles::{Trouble, tell};
 use rds_http::Token;
 use rds_names::Fault;
 use std::alloc::{AllocError, Global};
 use std::io;
+use std::io::ErrorKind;
 use std::net::{Net, SocketAddr, ToSocketAddrs};
 
 /// A site meets so many peers at most.
@@ -20,6 +21,7 @@ const LONGEST: usize = 261;
 #[derive(Drop)]
 pub struct Destination<'a> {
     name: &'a str,
+    // Where it was when its name was looked up last. None where that is to be done anew.
     addresses: Vec<SocketAddr>,
     // Which address is tried next.
     at: usize,
@@ -54,11 +56,25 @@ impl<'a> Destination<'a> {
         self.at = 0;
         false
     }
+
+    /// Looks its name up, unless it was found before and isn't forgotten.
+    pub fn look_up<H: Net + AllocGlobal>(&mut self, rt: &H) -> io::Result<()> {
+        if self.addresses.is_empty() {
+            self.addresses = look_up(rt, self.name)?;
+        }
+        Ok(())
+    }
+
+    /// Forgets where it was, so that its name is looked up before the next try.
+    pub fn forget(&mut self) {
+        self.addresses.clear();
+        self.at = 0;
+    }
 }
 
 /// Finds the peers that the words name, for a site at an address. A text that names no host and port, one that names
-/// the site itself, and more than 64 are refused (`Usage`), and a host that isn't found (`Device`), with a line on
-/// standard error.
+/// the site itself, and more than 64 are refused (`Usage`), with a line on standard error. A host that isn't found has
+/// one too, and that peer has no address yet.
 pub fn find_peers<'a, H: Net + Eprint + AllocGlobal>(
     rt: &H,
     names: &[&'a str],
@@ -86,14 +102,29 @@ fn find_peer<'a, H: Net + Eprint + AllocGlobal>(
     own: SocketAddr,
     token: Option<&Token>,
 ) -> Result<Destination<'a>, Fault> {
-    let found = find_node(rt, name, token)?;
-    for address in found.addresses.as_slice() {
+    check_place(rt, name)?;
+    let addresses = addresses_now(rt, name)?;
+    for address in addresses.as_slice() {
         if is_same_place(own, *address) {
             let _ = eprintln!(rt; "the peer {name} is this node itself");
             return Err(Fault::Usage);
         }
     }
-    Ok(found)
+    Ok(destination_of(rt.alloc(), name, addresses, token)?)
+}
+
+// The addresses of a peer. None where it isn't found, which is told as of one that is lost.
+fn addresses_now<H: Net + Eprint + AllocGlobal>(
+    rt: &H,
+    name: &str,
+) -> Result<Vec<SocketAddr>, Fault> {
+    match look_up(rt, name) {
+        Ok(addresses) => Ok(addresses),
+        Err(error) => match tell(rt, name, Trouble::from(error)) {
+            Fault::Memory => Err(Fault::Memory),
+            _ => Ok(Vec::new(rt.alloc())),
+        },
+    }
 }
 
 /// Finds the node of this name. A text that names no host and port is refused (`Usage`), and a host that isn't found
@@ -105,18 +136,36 @@ pub fn find_node<'a, H: Net + Eprint + AllocGlobal>(
 ) -> Result<Destination<'a>, Fault>
     ensures name { IfOk result (λ found. found.name.now ≡ name.now) }
 {
-    if !is_place(name) {
-        let _ = eprintln!(rt;
-            "'{name}' is no host and port, as 192.0.2.7:7780 or node.example:7780 is"
-        );
-        return Err(Fault::Usage);
-    }
+    check_place(rt, name)?;
     let addresses = find_addresses(rt, name)?;
+    Ok(destination_of(rt.alloc(), name, addresses, token)?)
+}
+
+// Refuses a text that names no host and port, with a line on standard error.
+fn check_place<H: Eprint>(rt: &H, name: &str) -> Result<(), Fault> {
+    if is_place(name) {
+        return Ok(());
+    }
+    let _ = eprintln!(rt;
+        "'{name}' is no host and port, as 192.0.2.7:7780 or node.example:7780 is"
+    );
+    Err(Fault::Usage)
+}
+
+// A peer of this name at these addresses.
+fn destination_of<'a>(
+    alloc: Global,
+    name: &'a str,
+    addresses: Vec<SocketAddr>,
+    token: Option<&Token>,
+) -> Result<Destination<'a>, AllocError>
+    ensures name { IfOk result (λ found. found.name.now ≡ name.now) }
+{
     Ok(Destination {
         name,
         addresses,
         at: 0,
-        authorization: authorization(rt.alloc(), token)?,
+        authorization: authorization(alloc, token)?,
     })
 }
 
@@ -126,11 +175,7 @@ fn find_addresses<H: Net + Eprint + AllocGlobal>(
     name: &str,
 ) -> Result<Vec<SocketAddr>, Fault> {
     match look_up(rt, name) {
-        Ok(addresses) if !addresses.is_empty() => Ok(addresses),
-        Ok(_) => {
-            let _ = eprintln!(rt; "cannot find the peer {name}: it has no address");
-            Err(Fault::Device)
-        }
+        Ok(addresses) => Ok(addresses),
         Err(error) => {
             let _ = eprintln!(rt; "cannot find the peer {name}: {error}");
             Err(Trouble::from(error).fault())
@@ -138,10 +183,14 @@ fn find_addresses<H: Net + Eprint + AllocGlobal>(
     }
 }
 
+// Looks the addresses of a host and port up: at least one.
 fn look_up<H: Net + AllocGlobal>(rt: &H, name: &str) -> io::Result<Vec<SocketAddr>> {
     let mut addresses = Vec::new(rt.alloc());
     for address in name.to_socket_addrs(rt)? {
         addresses.push(address)?;
+    }
+    if addresses.is_empty() {
+        return Err(io::Error::from(ErrorKind::NotFound));
     }
     Ok(addresses)
 }

@@ -5,7 +5,7 @@ use crate::channels::Channel;
 use crate::committed::Committed;
 use crate::destinations::Destination;
 use crate::levels::Level;
-use crate::requests::{Request, Resource, Response};
+use crate::requests::{DONE, NOT_MODIFIED, Request, Resource, Response};
 use crate::troubles::{End, Trouble};
 use rds_files::{Disk, LockFile};
 use rds_http::{Lacks, Site, Tag};
@@ -13,12 +13,6 @@ use rds_names::Fault;
 use std::alloc::Global;
 use std::mem;
 use std::time::Instant;
-
-/// The status of a request that was done.
-pub const DONE: u16 = 200;
-
-/// The status of a question that is not sent, since it is known.
-pub const NOT_MODIFIED: u16 = 304;
 
 /// The status where a tag is of no question that the peer knows.
 const PRECONDITION_FAILED: u16 = 412;

@@ -1,13 +1,14 @@
 //! The loop of a node: a site that runs. One process and one thread hold a document in its file, and serve it over
-//! HTTP, and meet other nodes over theirs. Read `words`, `addresses`, `secrets`; then `committed`, `logging`, `sockets`,
-//! `listeners`, `clients`, `table`; then `destinations`, `schedule`, `requests`, `troubles`, `channels`, `levels`,
-//! `exchanges`, `peers`, `peer_table`; then `arrivals`, `turns`, `running`. A node that is called: `calling`; by a file that meets it,
-//! `visiting`; by a command, `asking`.
+//! HTTP, and meet other nodes over theirs. Read `words`, `addresses`, `secrets`; then `committed`, `reserve`, `behind`,
+//! `logging`, `sockets`, `listeners`, `clients`, `table`; then `destinations`, `schedule`, `requests`, `troubles`,
+//! `channels`, `levels`, `exchanges`, `peers`, `peer_table`; then `arrivals`, `turns`, `running`. A node that is
+//! called: `calling`; by a file that meets it, `visiting`; by a command, `asking`.
 #![tactic(auto)]
 
 mod addresses;
 mod arrivals;
 mod asking;
+mod behind;
 mod calling;
 mod channels;
 mod clients;
@@ -20,6 +21,7 @@ mod logging;
 mod peer_table;
 mod peers;
 mod requests;
+mod reserve;
 mod running;
 mod schedule;
 mod secrets;

@@ -107,6 +107,17 @@ impl Listener {
         written.is_ok() && self.output.len() <= MOST_WAITING
     }
 
+    /// Notes a ping to be sent, where nothing waits. What stands between the two may let a quiet connection go. Answers
+    /// whether there is one.
+    pub fn ping(&mut self) -> bool {
+        if self.wants_write() || !self.socket.can_write() {
+            return false;
+        }
+        self.socket
+            .write(Message::Ping(&[]), &mut self.output, &mut NoMask)
+            .is_ok()
+    }
+
     /// Sends what waits, once.
     pub fn send<H: Disk>(
         &mut self,

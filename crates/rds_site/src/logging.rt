@@ -1,6 +1,7 @@
 //! The log of requests: a line for each on standard output, where that is wished.
 ghost use Rattle.std.specs.Prelude.{◌≡◌};
 
+use crate::behind::{is_edit, refuse_edit, shows_behind};
 use bytes::Bytes;
 use http::{Method, Request};
 use http_server::{Response, Service};
@@ -45,20 +46,27 @@ impl Log {
     }
 }
 
-/// A site, and the log of what it is asked, where one is kept.
+/// A site, and the log of what it is asked, where one is kept. Once its file is known to be older than what its replica
+/// has sent, edits are refused.
 pub struct LoggedSite<'a, H: Disk> {
+    /// The path of its file.
+    pub file: &'a str,
     pub site: Site<'a, H>,
     pub log: Option<Log>,
     /// Who asks.
     pub client: SocketAddr,
+    /// Whether the file is known to be older than what its replica has sent.
+    pub is_behind: bool,
 }
 
 impl<H: Disk> Drop for LoggedSite<'_, H> {
     fn drop(self) {
         let LoggedSite {
+            file: _,
             site: _site,
             log: _log,
             client: _,
+            is_behind: _,
         } = self;
     }
 }
@@ -67,16 +75,22 @@ impl<H: Disk> Service for LoggedSite<'_, H>
 where
     H::File: LockFile,
 {
-    ghost use Rattle.rds_http.specs.Answers.{Answers};
+    ghost use Rattle.rds_site.specs.Behind.{AnswersUnlessBehind};
 
-    ghost answers = { λ old request response new. Answers old.site request response new.site };
+    ghost answers = { λ old request response new.
+        AnswersUnlessBehind old.is_behind old.site request response new.site };
 
     fn call(
         &mut self,
         request: &Request<Bytes>,
         response: &mut Response,
     ) -> Result<(), AllocError> {
-        self.site.call(request, response)?;
+        if self.is_behind && is_edit(request) {
+            refuse_edit(response)?;
+        } else {
+            self.site.call(request, response)?;
+            self.is_behind |= shows_behind(request, response);
+        }
         if let Some(log) = &mut self.log {
             log.note(self.client, request, response);
         }

@@ -1,4 +1,5 @@
 //! The peers of a site.
+use crate::behind::OWN_AHEAD;
 use crate::committed::Committed;
 use crate::destinations::{Destination, MOST_PEERS};
 use crate::peers::{Counted, Outcome, Peer};
@@ -62,6 +63,11 @@ impl<'a> Peers<'a> {
             .iter()
             .filter(|peer| peer.standing() == standing)
             .count()
+    }
+
+    /// Whether what one brought last was refused since this node's file is older than what its replica has sent.
+    pub fn show_behind(&self) -> bool {
+        self.count_of(Standing::Unfit { fault: OWN_AHEAD }) != 0
     }
 
     /// Lists the peer of this token for the turn that begins. Answers whether the token is a peer's.

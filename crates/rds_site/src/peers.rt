@@ -63,13 +63,20 @@ pub struct Peer<'a> {
 }
 
 impl<'a> Peer<'a> {
-    /// A peer that is met at once, and then every so many seconds.
+    /// A peer that is met at once, and then every so many seconds. One that wasn't found is looked up again as after a
+    /// failure.
     pub fn new(destination: Destination<'a>, every: u32, now: Instant) -> Peer<'a> {
+        let mut schedule = Schedule::new(every, now);
+        let mut standing = Standing::Unmet;
+        if destination.address().is_none() {
+            schedule.fail(now);
+            standing = Standing::Lost;
+        }
         Peer {
             destination,
             link: Link::Away,
-            schedule: Schedule::new(every, now),
-            standing: Standing::Unmet,
+            schedule,
+            standing,
             is_listed: false,
         }
     }
@@ -219,12 +226,16 @@ impl<'a> Peer<'a> {
         self.is_listed = false;
     }
 
-    // The exchange failed. Where another address wasn't tried yet, that one is next, at once and without a word.
+    // The exchange failed. Where another address wasn't tried yet, that one is next, at once and without a word. Where
+    // no connection could be made to any, the peer may be elsewhere by now.
     fn fail<H: Eprint>(&mut self, rt: &H, trouble: Trouble, now: Instant) -> Outcome {
         let was_open = matches!(self.link, Link::Open(_));
         self.leave();
-        if !was_open && self.destination.turn() {
-            return Outcome::NONE;
+        if !was_open {
+            if self.destination.turn() {
+                return Outcome::NONE;
+            }
+            self.destination.forget();
         }
         self.schedule.fail(now);
         let standing = trouble.standing();
@@ -315,7 +326,7 @@ impl<'a> Peer<'a> {
         }
     }
 
-    // Begins a connection where there is none.
+    // Begins a connection where there is none. Where no address is at hand its name is looked up, for which all waits.
     fn call<H: Disk + Net>(
         &mut self,
         rt: &H,
@@ -323,7 +334,11 @@ impl<'a> Peer<'a> {
         line: &Line<'_>,
         now: Instant,
     ) -> Result<(), Trouble> {
-        if let (Link::Away, Some(address)) = (&self.link, self.destination.address()) {
+        if !matches!(self.link, Link::Away) {
+            return Ok(());
+        }
+        self.destination.look_up(rt)?;
+        if let Some(address) = self.destination.address() {
             let socket = Socket::dial(rt, committed, address, line)?;
             self.link = Link::Opening(socket, now);
         }

@@ -9,6 +9,12 @@ use rds_http::Tag;
 use std::alloc::{AllocError, Global};
 use std::{mem, str};
 
+/// The status of a request that was done.
+pub const DONE: u16 = 200;
+
+/// The status of a question that is not sent, since it is known.
+pub const NOT_MODIFIED: u16 = 304;
+
 /// The longest body of a response, in bytes.
 const LONGEST_BODY: usize = 268_435_456;
 
@@ -99,6 +105,24 @@ impl Resource {
         }
     }
 
+    // The type of what a node gives for it.
+    fn kind(self) -> &'static [u8] {
+        match self {
+            Resource::Ask
+            | Resource::Tag
+            | Resource::Answer
+            | Resource::Pull
+            | Resource::Snapshot => b"application/octet-stream",
+            Resource::Edits | Resource::Conflicts => b"application/x-ndjson",
+            Resource::Take
+            | Resource::Push
+            | Resource::Grow
+            | Resource::Value
+            | Resource::Document
+            | Resource::Status => b"application/json",
+        }
+    }
+
     fn target(self, alloc: Global, path: &str) -> Result<String, AllocError> {
         let mut target = String::from_str(alloc, self.front())?;
         utf8_percent_encode(path, ENCODED).append_to(&mut target)?;
@@ -148,6 +172,8 @@ pub struct Head {
     pub tag: Option<Tag>,
     /// The peer's number in its roster.
     pub replica: Option<u8>,
+    // Whether the body is of the type that a node gives for what was asked for.
+    is_due: bool,
 }
 
 impl Head {
@@ -156,14 +182,16 @@ impl Head {
         status: 0,
         tag: None,
         replica: None,
+        is_due: false,
     };
 
-    // What the fields of a head say, which are places in its text.
-    fn read(status: u16, text: &[u8], fields: &[HeaderSpan]) -> Head {
+    // What the fields of a head say, which are places in its text, where a type of body is due.
+    fn read(status: u16, text: &[u8], fields: &[HeaderSpan], kind: &[u8]) -> Head {
         Head {
             status,
             tag: Tag::parse(value_of(text, fields, b"etag")),
             replica: number_in(value_of(text, fields, b"rds-replica")),
+            is_due: is_of_kind(value_of(text, fields, b"content-type"), kind),
         }
     }
 }
@@ -184,6 +212,8 @@ pub struct Talk {
     pub output: BytesMut,
     /// What came and wasn't read.
     pub input: BytesMut,
+    // The type that the body of the response is to have.
+    kind: &'static [u8],
     // What came of the response.
     head: Head,
     body: Vec<u8>,
@@ -197,6 +227,7 @@ impl Talk {
             client: Client::new(Limits::default()),
             output: BytesMut::new(alloc),
             input: BytesMut::new(alloc),
+            kind: &[],
             head: Head::NONE,
             body: Vec::new(alloc),
         }
@@ -215,6 +246,7 @@ impl Talk {
             self.client.write_data(&mut self.output, piece)?;
         }
         self.client.write_end(&mut self.output, &[])?;
+        self.kind = request.resource.kind();
         Ok(())
     }
 
@@ -238,7 +270,8 @@ impl Talk {
         Ok(())
     }
 
-    /// Reads the response out of what came, as far as that goes. Answers it once it is whole.
+    /// Reads the response out of what came, as far as that goes. Answers it once it is whole. `Foreign` where it says
+    /// that the request was done, and its body isn't of the type that a node gives.
     pub fn next(&mut self) -> Result<Option<Response>, Trouble> {
         for _ in 0..u64::MAX {
             let mut fields = [EMPTY_HEADER_SPAN; FIELDS];
@@ -246,7 +279,7 @@ impl Talk {
             match read.event {
                 Event::Head(head) => {
                     let own = fields.get(..head.headers).unwrap_or(&[]);
-                    self.head = Head::read(head.code, self.input.as_slice(), own);
+                    self.head = Head::read(head.code, self.input.as_slice(), own, self.kind);
                     self.check_size()?;
                 }
                 Event::Data(span) => self.keep(span)?,
@@ -257,7 +290,7 @@ impl Talk {
                 }
                 Event::End(_) => {
                     self.advance(read.consumed);
-                    return Ok(Some(self.response()));
+                    return self.response();
                 }
                 Event::Paused => return Ok(None),
                 Event::Upgraded | Event::Closed => return Err(Trouble::Ended),
@@ -270,7 +303,7 @@ impl Talk {
     /// The peer has ended the connection. Answers the response, where that makes it whole.
     pub fn end(&mut self) -> Result<Option<Response>, Trouble> {
         match self.client.read_eof()? {
-            Event::End(_) => Ok(Some(self.response())),
+            Event::End(_) => self.response(),
             _ => Err(Trouble::Ended),
         }
     }
@@ -301,12 +334,13 @@ impl Talk {
     }
 
     // The response that has come.
-    fn response(&mut self) -> Response {
+    fn response(&mut self) -> Result<Option<Response>, Trouble> {
         let body = mem::replace(&mut self.body, Vec::new(self.alloc));
-        Response {
-            head: mem::replace(&mut self.head, Head::NONE),
-            body,
+        let head = mem::replace(&mut self.head, Head::NONE);
+        if head.status == DONE && !head.is_due {
+            return Err(Trouble::Foreign);
         }
+        Ok(Some(Response { head, body }))
     }
 
     /// How much has come of a response that isn't whole, in bytes.
@@ -362,6 +396,15 @@ fn value_of<'t>(text: &'t [u8], fields: &[HeaderSpan], name: &[u8]) -> &'t [u8] 
         }
     }
     &[]
+}
+
+// Whether a type of media is this one, in whatever case, and with whatever parameters (RFC 9110).
+fn is_of_kind(value: &[u8], kind: &[u8]) -> bool {
+    let end = value.iter().position(|b| *b == b';').unwrap_or(value.len());
+    match value.get(..end) {
+        Some(name) => name.trim_ascii_end().eq_ignore_ascii_case(kind),
+        None => false,
+    }
 }
 
 // What a span covers of a text; nothing where it goes beyond.

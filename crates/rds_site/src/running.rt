@@ -8,12 +8,13 @@ use crate::arrivals::Door;
 use crate::destinations::find_peers;
 use crate::logging::{Log, LoggedSite};
 use crate::peer_table::Peers;
+use crate::reserve::Reserve;
 use crate::secrets::read_secret;
 use crate::table::Clients;
 use crate::troubles::Trouble;
 use crate::turns::Turns;
 use crate::words::SiteWords;
-use rds_files::{Disk, HolderNote, LockFile};
+use rds_files::{Disk, HolderNote, LockFile, check_writing};
 use rds_http::{Access, Site};
 use rds_names::Fault;
 use rds_store::DocumentFile;
@@ -36,23 +37,28 @@ use std::time::Instant;
 /// changed.
 ///
 /// `Usage` where the words name no place for a site or no peers, or the token's file has none. What
-/// [`DocumentFile::open`] and [`DocumentFile::keep`] refuse with. `Device` where the token's file can't be read, a peer
-/// isn't found, the address can't be had, or the system can't be waited for. `Memory` where there is none to begin.
-/// Standard error has a line once the site serves, and one that says why it ended, but where memory lacked. What a
-/// client or a peer does wrong ends its connection alone.
+/// [`DocumentFile::open`] and [`DocumentFile::keep`] refuse with. `Device` where the token's file can't be read, the
+/// document's can't be written, the address can't be had, or the system can't be waited for. `Memory` where there is
+/// none to begin. Standard error has a line once the site serves, and one that says why it ended, but where memory
+/// lacked. What a client or a peer does wrong ends its connection alone.
 ///
-/// There are at most 1,024 clients; more are let go at once. Each has 30 seconds for a whole request, and to take a
-/// byte of an answer. A body has at most 64 MB, and what waits unread of all clients 256 MB: who sends more is let go.
-/// A listener for which 256 kB wait is let go.
+/// Where a meeting shows that the file is older than what its replica has sent, edits are refused from then on (409, as
+/// the fault `OwnAhead`), and standard error says so: each would fork the replica.
+///
+/// There are at most 1,024 clients; more are let go at once. However many descriptors connections take, enough are left
+/// to keep the document. Each client has 30 seconds for a whole request, and to take a byte of an answer. A body has at
+/// most 64 MB, and what waits unread of all clients 256 MB: who sends more is let go. A listener for which 256 kB wait
+/// is let go, and one that was sent nothing for 20 seconds is sent a ping.
 ///
 /// Where the words ask for a log, standard output has a line for each request that the site was asked: the client's
 /// address, the method, the target, the status, how many bytes the answer's body has, and how many microseconds passed
 /// from when the turn began until its changes were kept. It is written once the answer was sent, and where it can't be
 /// the site goes on. What is no request of HTTP has no line.
 ///
-/// There are at most 64 peers. One that can't be met, that refuses, or that brings what is refused is tried again after
-/// 1, 2, 4, .. up to 60 seconds. Standard error has a line where that begins and ends. The responses that are under way
-/// have at most 256 MB. Every 30 seconds a byte has to go or come.
+/// There are at most 64 peers. One that can't be found or met, that refuses, or that brings what is refused is tried
+/// again after 1, 2, 4, .. up to 60 seconds. Its name is looked up again where no connection could be made. Standard
+/// error has a line where that begins and ends. The responses that are under way have at most 256 MB. Every 30 seconds
+/// a byte has to go or come.
 pub fn run_site<H: Disk + Net + RandomSource + Print>(rt: &H, words: &SiteWords<'_>) -> Fault
 where
     H::File: LockFile,
@@ -88,18 +94,23 @@ where
     let destinations = find_peers(rt, words.peers, address, token.as_ref())?;
     let clients = Clients::new(rt.alloc())?;
     let mut file = DocumentFile::open(rt, words.file)?;
+    check_writing(rt, words.file)?;
     file.keep(rt)?;
     let (door, now) = open_door(rt, address)?;
     let peers = Peers::new(rt.alloc(), destinations, words.every, now)?;
+    let mut reserve = Reserve::new(rt.alloc())?;
+    reserve.fill(rt);
     let address = door.address().unwrap_or(address);
     let access = Access::new(address, token, words.is_open);
     let logged = LoggedSite {
+        file: words.file,
         site: Site::new(rt.alloc(), file, access),
         log: log_of(rt.alloc(), words.log),
         client: address,
+        is_behind: false,
     };
     let _ = eprintln!(rt; "listening on http://{address}/");
-    Ok(Turns::new(logged, door, clients, peers, now))
+    Ok(Turns::new(logged, door, clients, peers, reserve, now))
 }
 
 // The log, where one is wished.

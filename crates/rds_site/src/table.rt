@@ -217,12 +217,14 @@ impl Clients {
         self.room = changed(self.room, before.room, after.room);
     }
 
-    /// Lets those go that are overdue: in the next turn, which comes at once.
+    /// Lets those go that are overdue, and has quiet listeners be sent a ping: in the next turn, which comes at once.
     pub fn sweep(&mut self, now: Instant) {
         for key in 0..MOST_CLIENTS {
             if let Some(client) = self.table.get_mut(key) {
                 if client.is_overdue(now) {
                     client.give_up();
+                    list(&mut self.table, &mut self.next, key);
+                } else if client.ping(now) {
                     list(&mut self.table, &mut self.next, key);
                 }
             }

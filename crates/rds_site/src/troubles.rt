@@ -40,6 +40,8 @@ pub enum Trouble {
     Silence(u64),
     /// A response is none of HTTP/1.1.
     Garbled(ReadError),
+    /// A response says that a request was done, and is none of a node.
+    Foreign,
     /// A response is too long, alone or with those of other peers.
     TooLong,
     /// The peer refused a request.
@@ -175,7 +177,7 @@ impl Trouble {
             Trouble::Memory => Fault::Memory,
             Trouble::System(_) | Trouble::Silence(_) => Fault::Device,
             Trouble::Ended | Trouble::Refused(_) => Fault::PeerEnded,
-            Trouble::Garbled(_) => Fault::OutOfTurn,
+            Trouble::Garbled(_) | Trouble::Foreign => Fault::OutOfTurn,
             Trouble::TooLong => Fault::TooLong,
             Trouble::Unfit(fault) => *fault,
         }
@@ -204,6 +206,9 @@ impl Trouble {
             }
             Trouble::Garbled(error) => {
                 eprintln!(rt; "peer {name}: lost: its response is no HTTP/1.1: {error}")
+            }
+            Trouble::Foreign => {
+                eprintln!(rt; "peer {name}: lost: is no node: its response has another type")
             }
             Trouble::TooLong => eprintln!(rt; "peer {name}: lost: its response is too long"),
             Trouble::Refused(response) => return tell_refusal(rt, name, response),

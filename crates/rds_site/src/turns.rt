@@ -2,9 +2,11 @@
 ghost use Rattle.std.specs.Prelude.{◌≡◌};
 
 use crate::arrivals::Door;
+use crate::behind::tell_behind;
 use crate::committed::{Committed, commit};
 use crate::logging::LoggedSite;
 use crate::peer_table::Peers;
+use crate::reserve::Reserve;
 use crate::table::Clients;
 use crate::troubles::Trouble;
 use rds_files::{Disk, LockFile};
@@ -19,6 +21,7 @@ pub struct Turns<'a, H: Disk> {
     door: Door,
     clients: Clients,
     peers: Peers<'a>,
+    reserve: Reserve<H>,
     // The time, when it was last looked at, and when clients were last looked at for being overdue.
     now: Instant,
     swept: Instant,
@@ -31,6 +34,7 @@ impl<H: Disk> Drop for Turns<'_, H> {
             door: _door,
             clients: _clients,
             peers: _peers,
+            reserve: _reserve,
             now: _,
             swept: _,
         } = self;
@@ -47,6 +51,7 @@ where
         door: Door,
         clients: Clients,
         peers: Peers<'a>,
+        reserve: Reserve<H>,
         now: Instant,
     ) -> Turns<'a, H>
         ensures { result.logged ≡ logged.entry }
@@ -56,6 +61,7 @@ where
             door,
             clients,
             peers,
+            reserve,
             now,
             swept: now,
         }
@@ -80,12 +86,17 @@ where
         Ok(())
     }
 
-    // Keeps what changed, and sends what is due. Answers when it was kept.
+    // Keeps what changed, and sends what is due. Answers when it was kept. Connections may have taken all other
+    // descriptors, so those in reserve are let go for it.
     fn send(&mut self, rt: &H) -> Result<Instant, Fault>
     where
         H: Net,
     {
+        if self.logged.site.has_changed() {
+            self.reserve.let_go();
+        }
         let committed = commit(rt, &mut self.logged.site)?;
+        self.reserve.fill(rt);
         let kept = Instant::now(rt).unwrap_or(self.now);
         tell(&committed, &mut self.clients, self.now);
         self.peers
@@ -104,7 +115,9 @@ where
     }
 
     // Answers in memory what clients and peers say, and begins what is due. What clients change is due to all peers.
+    // Where it shows that the file is behind, that is told once.
     fn hear(&mut self, rt: &H) {
+        let was_behind = self.logged.is_behind;
         let site = &mut self.logged.site;
         site.note_clients(self.clients.len(), self.clients.listeners());
         site.note_peers(self.peers.counts());
@@ -114,6 +127,10 @@ where
         }
         self.peers.hear(rt, &mut self.logged.site, self.now);
         self.peers.begin(rt, &mut self.logged.site, self.now);
+        self.logged.is_behind |= self.peers.show_behind();
+        if self.logged.is_behind && !was_behind {
+            tell_behind(rt, self.logged.file);
+        }
     }
 
     // Waits for what comes or is due, and lets those in that wait.
@@ -128,7 +145,8 @@ where
         Ok(())
     }
 
-    // Once a second lets those go that are overdue, and tries again to accept those that couldn't be.
+    // Once a second lets those go that are overdue, has quiet listeners be sent a ping, and tries again to accept those
+    // that couldn't be.
     fn sweep(&mut self) {
         if self.now.duration_since(self.swept).as_secs() != 0 {
             self.clients.sweep(self.now);

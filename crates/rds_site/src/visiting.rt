@@ -3,8 +3,8 @@ ghost use Rattle.std.specs.Prelude.{◌≡◌, IfOk, IfSome, None, Some};
 ghost use Rattle.rds_site.specs.Visits.{IsBrought};
 
 use crate::calling::{Caller, caller_of, name_in};
-use crate::exchanges::{NOT_MODIFIED, are_forked};
-use crate::requests::{Head, Request, Resource, Response};
+use crate::exchanges::are_forked;
+use crate::requests::{Head, NOT_MODIFIED, Request, Resource, Response};
 use crate::secrets::read_secret;
 use crate::troubles::{Standing, Trouble, tell};
 use rds_files::{Disk, LockFile, ReplicaFile};
@@ -62,7 +62,7 @@ struct Own {
 /// `Usage` where the text names no node, or the token's file has none. What `ReplicaFile::open_lasting`, `take_file` and
 /// `answer_file` refuse with, `WrongGroup`, `WrongRoster` and `SameReplica` as a session tells them. `Device` where the
 /// node can't be reached or waited for, or lets wait too long; `PeerEnded` where it ends the connection or refuses a
-/// request; `OutOfTurn` where it doesn't speak HTTP/1.1; `TooLong` of a response. `Forked` where both have seen the same,
+/// request; `OutOfTurn` where it is no node; `TooLong` of a response. `Forked` where both have seen the same,
 /// and hold different entries. Standard error has a line that says why. What was taken stays taken.
 pub fn sync_site<H: Disk + Net>(rt: &H, words: &VisitWords<'_>) -> Visit
 where
