@@ -10,10 +10,12 @@ use std::alloc::AllocError;
 use std::{io, str};
 
 /// The faults by which a node refuses a request, and which say no more than their names.
-const NAMED: [Fault; 14] = [
+const NAMED: [Fault; 16] = [
     Fault::Memory,
+    Fault::BadName,
     Fault::BadKey,
     Fault::BadPath,
+    Fault::BadRoster,
     Fault::WrongAsker,
     Fault::Cut,
     Fault::Bad,

@@ -15,6 +15,9 @@ use std::io;
 use std::net::{Net, SocketAddr};
 use std::time::Instant;
 
+/// So few clients leave descriptors enough, and to let go and take those in reserve costs more than it is worth.
+const FEW: usize = 8;
+
 /// A site, its clients, where they come in, and its peers.
 pub struct Turns<'a, H: Disk> {
     logged: LoggedSite<'a, H>,
@@ -86,13 +89,13 @@ where
         Ok(())
     }
 
-    // Keeps what changed, and sends what is due. Answers when it was kept. Connections may have taken all other
+    // Keeps what changed, and sends what is due. Answers when it was kept. Many connections may have taken all other
     // descriptors, so those in reserve are let go for it.
     fn send(&mut self, rt: &H) -> Result<Instant, Fault>
     where
         H: Net,
     {
-        if self.logged.site.has_changed() {
+        if self.logged.site.has_changed() && self.clients.len() > FEW {
             self.reserve.let_go();
         }
         let committed = commit(rt, &mut self.logged.site)?;
