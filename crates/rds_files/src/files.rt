@@ -485,7 +485,7 @@ where
             self.make_sure(rt)?;
             return Ok(());
         }
-        check_standing(rt, self.target.path(), &self.file, self.length())?;
+        self.check_standing(rt)?;
         match self.append(rt, replica, &change) {
             Ok(Some((kept, layout))) => {
                 self.held = kept;
@@ -501,6 +501,13 @@ where
                 Err(fault)
             }
         }
+    }
+
+    // Refuses `Device` where others put another file at the path, or wrote to this one.
+    fn check_standing(&self, rt: &H) -> Result<(), Fault>
+        ensures fault { IfErr result (λ e. e ≡ Device) }
+    {
+        check_standing(rt, self.target.path(), &self.file, self.length())
     }
 
     // How many bytes the file has, where that is known.
