@@ -1,12 +1,13 @@
 //! What a site does whose file is older than what its replica has sent, as a backup is that was put back: it refuses
 //! edits, each of which would fork the replica.
-ghost use Rattle.std.specs.Prelude.{OnOk};
+ghost use Rattle.std.specs.Prelude.{◌≡◌, OnOk, bytes_eq, codes};
+ghost use Rattle.http.specs.Request.{head_of};
 ghost use Rattle.http_server.specs.Response.{IsBlank};
-ghost use Rattle.rds_site.specs.Behind.{TellsBehind};
+ghost use Rattle.rds_site.specs.Behind.{TellsBehind, is_edit};
 
 use bytes::{Buf, Bytes};
 use http::header::{CONTENT_TYPE, HeaderValue};
-use http::{Method, Request, StatusCode};
+use http::{Request, StatusCode};
 use http_server::Response;
 use std::alloc::AllocError;
 
@@ -21,20 +22,26 @@ const REFUSAL: &[u8] =
     b"{\"fault\":10,\"name\":\"OwnAhead\",\"text\":\"the file is older than what its replica has sent\"}";
 
 /// Whether a request is to edit the document, or to put a name in its roster.
-pub fn is_edit(request: &Request<Bytes>) -> bool {
-    is_post(request) && matches!(request.uri().path(), "/edits" | "/grow")
+pub fn is_edit(request: &Request<Bytes>) -> bool
+    ensures { result ≡ is_edit request.now }
+{
+    let path = request.uri().path().as_bytes();
+    is_post(request) && (path == b"/edits".as_slice() || path == b"/grow".as_slice())
 }
 
 /// Whether a request brought something of the replica's own that the file lacks, and was refused for that.
 pub fn shows_behind(request: &Request<Bytes>, response: &Response) -> bool {
+    let path = request.uri().path().as_bytes();
     is_post(request)
-        && matches!(request.uri().path(), "/take" | "/push")
+        && (path == b"/take".as_slice() || path == b"/push".as_slice())
         && response.status == StatusCode::CONFLICT
         && response.body.chunk().starts_with(START)
 }
 
-fn is_post(request: &Request<Bytes>) -> bool {
-    *request.method() == Method::POST
+fn is_post(request: &Request<Bytes>) -> bool
+    ensures { result ≡ bytes_eq (head_of request.now).method (codes "POST") }
+{
+    request.method().as_str().as_bytes() == b"POST".as_slice()
 }
 
 /// Refuses an edit.

@@ -75,17 +75,20 @@ impl<H: Disk> Service for LoggedSite<'_, H>
 where
     H::File: LockFile,
 {
-    ghost use Rattle.rds_site.specs.Behind.{AnswersUnlessBehind};
+    ghost use Rattle.std.specs.Prelude.{◌&&◌, IsTrue};
+    ghost use Rattle.rds_site.specs.Behind.{AnswersOrRefuses, is_edit};
 
     ghost answers = { λ old request response new.
-        AnswersUnlessBehind old.is_behind old.site request response new.site };
+        AnswersOrRefuses (old.is_behind && is_edit request) old.site request response new.site
+        × (IsTrue old.is_behind → IsTrue new.is_behind) };
 
     fn call(
         &mut self,
         request: &Request<Bytes>,
         response: &mut Response,
     ) -> Result<(), AllocError> {
-        if self.is_behind && is_edit(request) {
+        let is_edit = is_edit(request);
+        if self.is_behind && is_edit {
             refuse_edit(response)?;
         } else {
             self.site.call(request, response)?;

@@ -295,7 +295,8 @@ impl<'a> Peer<'a> {
         now: Instant,
     ) {
         if let Err(trouble) = self.try_send(rt, committed, line, now) {
-            self.fail(rt, trouble, now);
+            let failed = Instant::now(rt).unwrap_or(now);
+            self.fail(rt, trouble, failed);
         }
     }
 
