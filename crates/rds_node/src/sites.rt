@@ -41,12 +41,21 @@ where
     }
 
     fn sync_site(&self, rt: &H, words: SyncWords<'_>, timeout: Option<Duration>) -> Visit {
+        let named = match token_file(rt) {
+            Ok(named) => named,
+            Err(fault) => {
+                return Visit {
+                    taken: None,
+                    fault: Some(fault),
+                };
+            }
+        };
         let visit = sync_site(
             rt,
             &VisitWords {
                 file: words.file,
                 node: words.addr,
-                token_file: words.token_file,
+                token_file: first_of(words.token_file, &named),
                 timeout,
             },
         );
@@ -58,11 +67,7 @@ where
 
     fn call_site(&self, rt: &H, address: &str, request: SiteRequest<'_>) -> Result<Vec<u8>, Fault> {
         let named = token_file(rt)?;
-        let token_file = match &named {
-            Some(path) => Some(path.as_str()),
-            None => None,
-        };
-        let words = ask_words(address, token_file);
+        let words = ask_words(address, first_of(None, &named));
         match request {
             SiteRequest::Edits(lines) => ask_node(rt, &words, Resource::Edits, "", &[lines]),
             SiteRequest::Value(path) => ask_node(rt, &words, Resource::Value, path, &[]),
@@ -112,6 +117,15 @@ fn token_file<H: Env + AllocGlobal>(rt: &H) -> Result<Option<String>, Fault> {
         Err(VarError::NotPresent) => Ok(None),
         Err(VarError::OutOfMemory) => Err(Fault::Memory),
         Err(_) => Err(Fault::Usage),
+    }
+}
+
+// The path that the words name, or else that of the environment.
+fn first_of<'a>(named: Option<&'a str>, set: &'a Option<String>) -> Option<&'a str> {
+    match (named, set) {
+        (Some(path), _) => Some(path),
+        (None, Some(path)) => Some(path.as_str()),
+        (None, None) => None,
     }
 }
 
