@@ -10,9 +10,7 @@ impl Documents<'_> {
     /// `create NAME FILE`: a new file that holds what the document is.
     pub fn create(&mut self, alloc: Global, rest: &str) -> Result<String, Fault> {
         let (name, file) = cut(rest)?;
-        let snapshot = self.named(name)?.document.snapshot()?;
-        let document = Document::open(alloc, snapshot.as_slice())?;
-        let _made = create_file(self.rt, file, document)?;
+        self.put(alloc, file, name)?;
         said(alloc, "created")
     }
 
@@ -75,6 +73,27 @@ impl Documents<'_> {
         let taken = opened.merge(snapshot.as_slice())?;
         opened.keep(self.rt)?;
         Ok(format!(in alloc; "{taken} taken")?)
+    }
+
+    /// `keep_over FILE NAME LINE`: the document of the file is edited. Then another file is put in its place, which holds
+    /// the named document, before it is kept.
+    pub fn keep_over(&mut self, alloc: Global, rest: &str) -> Result<String, Fault> {
+        let (file, rest) = cut(rest)?;
+        let (name, line) = cut(rest)?;
+        let mut opened = DocumentFile::open(self.rt, file)?;
+        opened.edit_line(line)?;
+        self.remove(alloc, file)?;
+        self.put(alloc, file, name)?;
+        opened.keep(self.rt)?;
+        said(alloc, "kept")
+    }
+
+    // Makes a file that holds the named document.
+    fn put(&mut self, alloc: Global, file: &str, name: &str) -> Result<(), Fault> {
+        let snapshot = self.named(name)?.document.snapshot()?;
+        let document = Document::open(alloc, snapshot.as_slice())?;
+        let _made = create_file(self.rt, file, document)?;
+        Ok(())
     }
 
     /// `look FILE`: the document of the file, as JSON.

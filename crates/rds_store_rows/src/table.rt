@@ -40,6 +40,7 @@ fn in_file(
         "keep_grown" => documents.keep_grown(alloc, rest),
         "keep_taken" => documents.keep_taken(alloc, rest),
         "keep_merged" => documents.keep_merged(alloc, rest),
+        "keep_over" => documents.keep_over(alloc, rest),
         "look" => documents.look(rest),
         "remove" => documents.remove(alloc, rest),
         _ => shown(documents, alloc, what, rest),
