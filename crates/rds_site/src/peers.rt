@@ -338,7 +338,11 @@ impl<'a> Peer<'a> {
         if !matches!(self.link, Link::Away) {
             return Ok(());
         }
-        self.destination.look_up(rt)?;
+        let began = Instant::now(rt).unwrap_or(now);
+        let found = self.destination.look_up(rt);
+        let ended = Instant::now(rt).unwrap_or(began);
+        self.schedule.spend(ended.duration_since(began));
+        found?;
         if let Some(address) = self.destination.address() {
             let socket = Socket::dial(rt, committed, address, line)?;
             self.link = Link::Opening(socket, now);
