@@ -1,5 +1,5 @@
 -- A file that takes a copy of another, and a file that is made from another.
-use Rattle.std.proofs.Common.{◌≡◌, ◌∙◌, ℕ, List, Result, Ok, Err, ap, subst, sym, inl, inr}
+use Rattle.std.proofs.Common.{◌≡◌, ◌∙◌, ℕ, List, Result, Ok, Err, subst, sym, inr}
 use Rattle.rds_names.specs.declared.fault.Fault.{Fault}
 use Rattle.rds_names.specs.Name.{name_of}
 use Rattle.rds_codec.specs.StateTexts.{IsSnapshot}

@@ -7,7 +7,7 @@ use Rattle.rds_offline.proofs.copies.create_next.Goals as goal
 
 pub returns-in_err-next-clause-fault : goal.returns-in_err-next-clause-fault
 returns-in_err-next-clause-fault g c =
-    let p = err_from_is_err_and c.from_residual-in_err-next.result c.from_residual-in_err-next.ensures.1 in
+    let p = err_from_is_err_and c.from_residual.result c.from_residual.ensures.1 in
     rw (p.1, p.2) (inl c.in_err-next.ensures.fault)
 
 pub returns-in_err-file-clause-fault : goal.returns-in_err-file-clause-fault
