@@ -229,18 +229,21 @@ def try_none(asked, folder):
 
 
 def try_wrong_snapshots(asked, folder):
-    """What gives no snapshot, of which no file is made, and what gives one."""
+    """What gives no snapshot, of which no file is made, and what gives one: its bytes are read as those of a file."""
     node, _ = nodes_of(asked, folder, "ab")
     snapshot = (node.folder / "a.rds").read_bytes()
     more = record(change_text(0, State()))
-    for body in b"", b"RDS2", b'{"ok":true}\n', snapshot[:-1], snapshot + b"x", snapshot + more:
+    for body in b"", b"RDS2", b'{"ok":true}\n', snapshot[:-1], snapshot + more[:-1] + b"x" + more:
         with Fake(says(response(body))) as fake:
             found = command(node, ["init", "c.rds", "--from"], at(fake.port), ["c"])
         is_due = found[0] == 1 and found[1].startswith(b"fault ") and found[2]
         want(is_due, f"'init --from' of what gives {body} comes to {found}")
         want(not (node.folder / "c.rds").exists(), f"a file is made of {body}")
-    with Fake(by_target(snapshot=response(snapshot))) as fake:
-        comes_to(node, ["init", "c.rds", "--from"], at(fake.port), ["c"], 0, b'{"ok":true}\n')
+    due = snapshot_text(begun(read_file(snapshot).replica, "c"))
+    for number, body in enumerate([snapshot, snapshot + b"x", snapshot + more]):
+        with Fake(by_target(snapshot=response(body))) as fake:
+            comes_to(node, ["init", f"c{number}.rds", "--from"], at(fake.port), ["c"], 0, b'{"ok":true}\n')
+        want((node.folder / f"c{number}.rds").read_bytes() == due, f"of {body} another file is made than is due")
     return "what is no snapshot is refused"
 
 

@@ -239,8 +239,8 @@ def judge_pipes(node):
 
 
 def of_length(node, length):
-    """An edit of no line that is so long as a whole."""
-    body = b"\n" * max(length * 7 // 8, length - 8_000)
+    """A request to edit that is so long as a whole. Its one line edits nothing."""
+    body = b" " * max(length * 7 // 8, length - 8_000)
     return node.text("POST", "/edits", body, "x: " + "y" * (length - len(node.text("POST", "/edits", body, "x: "))))
 
 
