@@ -214,6 +214,7 @@ def try_none(asked, folder):
     wordless = response(b"no", status=b"503 Service Unavailable")
     worded = response(b'{"status":500,"text":"no (1)"}', status=b"500 Internal Server Error")
     hostile = response(b'{"status":500,"text":"\x1b[2J"}', status=b"500 Internal Server Error")
+    page = response(b"<!doctype html><title>ok</title>\n", kind=b"text/html")
     for answer, due, note in (
         (known, b"fault 16: TooManyDots\n", "refused: 400: 16 TooManyDots"),
         (ahead, b"fault 23: PeerEnded\n", "refused: 409: 10 OwnAhead"),
@@ -221,6 +222,7 @@ def try_none(asked, folder):
         (worded, b"fault 23: PeerEnded\n", "refused: 500: no (1)\n"),
         (hostile, b"fault 23: PeerEnded\n", "refused: 500\n"),
         (b"no HTTP\r\n\r\n", b"fault 22: OutOfTurn\n", "is no HTTP/1.1"),
+        (page, b"fault 22: OutOfTurn\n", "is no node: its response has another type"),
     ):
         with Fake(says(answer)) as fake:
             for words, rest in (["set"], ["x", "1"]), *JOINS:

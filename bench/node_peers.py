@@ -307,12 +307,13 @@ def judge_told(a, fakes):
 
 
 def try_fork(asked, folder):
-    """Copies of a file that run as nodes of their own: one that meets the original, and one that meets its peer.
+    """Copies of a file that run as nodes of their own: one that meets the original, one that meets its peer, and one
+    that the peer meets.
 
     The first was edited as often as the original, so that both have seen the same dots."""
-    a, b, copy, older = nodes_of(asked, folder, ["a", "b", "a-copy", "a-older"])
+    a, b, copy, older, met = nodes_of(asked, folder, ["a", "b", "a-copy", "a-older", "a-met"])
     put_in(a, 1)
-    for node in copy, older:
+    for node in copy, older, met:
         shutil.copy(a.folder / "a.rds", node.folder / "a.rds")
     put_in(a, 2)
     put_in(copy, 3)
@@ -321,19 +322,36 @@ def try_fork(asked, folder):
     a.meets(b.port)
     copy.meets(a.port, every=1)
     older.meets(b.port, every=1)
-    with all_running(a, b, copy, older):
+    b.meets(met.port, every=1)
+    with all_running(a, b, copy, older, met):
         arrives(b, 2, 10)
         tells(copy, a.port, ["21", "SameReplica"])
         tells(older, b.port, ["10", "OwnAhead"])
+        tells(b, met.port, ["10", "OwnAhead"])
         for node in copy, older:
             counts = node.count("rds_peer_refusals_total"), node.count("rds_peers_met")
             want(counts[0] and not counts[1], f"a fork is refused and met {counts} times")
-            put(node, 6)
             want(node.answer("GET", "/doc").status == 200, "a fork doesn't serve")
+        put(copy, 6)
+        refuses_edits(older)
+        refuses_edits(met)
         put(a, 7)
         arrives(b, 7, AT_ONCE)
         want(not shows(a, 3) and not shows(b, 6), "an edit of a fork has come to others")
-    return "a fork is told by itself (21) and behind a peer (10), and goes on"
+    return "a fork is told by itself (21) and goes on; one behind its peers is told (10), and refuses edits"
+
+
+def refuses_edits(node):
+    """A node whose file is older than what its replica has sent takes no edit, says so once, and does all else."""
+    due = b'{"fault":10,"name":"OwnAhead","text":"the file is older than what its replica has sent"}'
+    before = (node.folder / "a.rds").read_bytes()
+    for target, body in ("/edits", b'["set","k/n6",6]\n'), ("/edits", b""), ("/grow", b"d"):
+        answer = node.answer("POST", target, body)
+        want((answer.status, answer.body) == (409, due), f"a node that is behind answers {target} by {answer}")
+    want((node.folder / "a.rds").read_bytes() == before, "a node that is behind has changed its file")
+    want(shows(node, 1) and not shows(node, 6), "a node that is behind doesn't show what it has")
+    lines = [line for line in node.said().splitlines() if line.startswith("a.rds: is older than what its replica has sent")]
+    want(len(lines) == 1, f"a node that is behind says {lines}")
 
 
 def put_in(node, number):
