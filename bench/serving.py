@@ -19,6 +19,8 @@ HOST = "127.0.0.1"
 TOKEN = "0123456789abcdef-._~"
 KEY = base64.b64encode(bytes(16)).decode()
 UPGRADE = ["Connection: Upgrade", "Upgrade: websocket", "Sec-WebSocket-Version: 13", f"Sec-WebSocket-Key: {KEY}"]
+# The number of the user and the group 'nobody'.
+NOBODY = 65_534
 # No answer, and no start, may take longer.
 LIMIT = 60
 # The first byte of a ping (RFC 6455).
