@@ -93,7 +93,7 @@ def try_kill(asked, folder):
 # it was after one edit.
 PUTS = {
     "another group's file is moved to it": (lambda there: os.rename(there / "other.rds", there / "a.rds"), "other"),
-    "another group's file is copied over it": (lambda there: shutil.copyfile(there / "other.rds", there / "a.rds"), "other"),
+    "another group's file is copied to it": (lambda there: shutil.copyfile(there / "other.rds", there / "a.rds"), "other"),
     "a backup is moved to it": (lambda there: os.rename(there / "backup", there / "a.rds"), "g"),
     "a backup is copied over it": (lambda there: shutil.copyfile(there / "backup", there / "a.rds"), "g"),
 }
@@ -126,7 +126,8 @@ def try_put(asked, folder):
             found, shown = node.status()["group"], node.document()["maps"]
             due = {"k": {"maps": {}, "regs": {"n1": [1]}, "sets": {}}} if group == "g" else {}
             want((found, shown) == (group, due), f"where {what} the next start has the group {found} with {shown}")
-    return f"{number + 1} files that others put in the place of a node's stay whole; {try_owner(asked, folder / 'owner')}"
+    done = f"{number + 1} files that others put in a node's place stay whole"
+    return f"{done}; {try_owner(asked, folder / 'owner')}"
 
 
 def try_owner(asked, folder):

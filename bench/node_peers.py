@@ -2,7 +2,9 @@
 import contextlib
 import itertools
 import json
+import os
 import pathlib
+import re
 import shutil
 import threading
 import time
@@ -350,7 +352,8 @@ def refuses_edits(node):
         want((answer.status, answer.body) == (409, due), f"a node that is behind answers {target} by {answer}")
     want((node.folder / "a.rds").read_bytes() == before, "a node that is behind has changed its file")
     want(shows(node, 1) and not shows(node, 6), "a node that is behind doesn't show what it has")
-    lines = [line for line in node.said().splitlines() if line.startswith("a.rds: is older than what its replica has sent")]
+    begin = "a.rds: is older than what its replica has sent, and edits are refused from here on: "
+    lines = [line for line in node.said().splitlines() if line.startswith(begin)]
     want(len(lines) == 1, f"a node that is behind says {lines}")
 
 
@@ -381,6 +384,31 @@ def try_gone(asked, folder):
     return f"a peer that begins is met {took[0]:.1f} s after that, and {took[1]:.1f} s after it was killed"
 
 
+def try_unfound(asked, folder):
+    """A peer whose name isn't found, then elsewhere, and then found, by a table of hosts of the node's own."""
+    if os.geteuid():
+        return "a name that isn't found isn't tried, but by root"
+    a, b = nodes_of(asked, folder, "ab", TOKEN)
+    hosts, known, program = folder / "hosts", pathlib.Path("/etc/hosts").read_text(), folder / "program"
+    hosts.write_text(known)
+    begin = f"mount --bind {hosts} /etc/hosts && exec {a.program}"
+    program.write_text(f'#!/bin/sh\nexec unshare -m sh -c \'{begin} "$@"\' sh "$@"\n')
+    program.chmod(0o755)
+    a.program = f"{program}"
+    a.meets(b.port, every=1, host="peer.invalid")
+    with all_running(a, b):
+        lines = lambda: re.findall(rf"^peer peer\.invalid:{b.port}: (.*)$", a.said(), re.M)
+        want(len(lines()) == 1 and lines()[0].startswith("lost: "), f"of a name that isn't found is told {lines()}")
+        put(a, 1)
+        hosts.write_text(f"{known}\n127.0.0.9 peer.invalid\n")
+        time.sleep(2.5)
+        hosts.write_text(f"{known}\n{HOST} peer.invalid\n")
+        took = arrives(b, 1, 20)
+        are_met(a, 1)
+        want(lines()[1:] == ["met"], f"of a name that is found again is told {lines()}")
+    return f"a peer whose name isn't found, and then elsewhere, is met {took:.1f} s after it is found"
+
+
 def meeting(part):
     """A part that gets its nodes by `nodes_of`."""
     named = lambda asked, folder: part(nodes_of, asked, folder)
@@ -389,7 +417,7 @@ def meeting(part):
 
 
 MEETINGS = [meeting(part) for part in (try_one_sided, try_scattered, try_told_fork, try_idle)]
-PARTS = [try_both, try_one_way, try_ring, try_token, try_join, try_fork, *MEETINGS, try_gone, try_wrong]
+PARTS = [try_both, try_one_way, try_ring, try_token, try_join, try_fork, *MEETINGS, try_gone, try_unfound, try_wrong]
 
 
 def try_peers(asked, folder):

@@ -577,7 +577,8 @@ def judge_lines(node):
         for count, status in (524_287, 200), (524_288, 413), (524_287, 200):
             answer = link.answer(node.text("POST", "/edits", b"\n" * count))
             want(answer.status == status, f"edits of {count} line feeds are answered {answer}")
-            want(status == 200 or b'{"fault":15,"name":"TooLong"' in answer.body, f"too many lines are answered {answer}")
+            is_due = status == 200 or answer.body.startswith(b'{"fault":15,"name":"TooLong"')
+            want(is_due, f"edits of too many lines are answered {answer}")
 
 
 def stop_and_go_on(node):

@@ -185,7 +185,7 @@ EDITS, BYTES = 60, 1_000
 
 
 def try_few(asked, folder):
-    """More connections that are idle than a node may have descriptors: edits are kept, also where FILE is written anew."""
+    """More idle connections than a node may have descriptors: edits are kept, also where FILE is written anew."""
     node, limits = Node(asked.program, folder), (DESCRIPTORS, DESCRIPTORS)
     files, held = set(), set()
     with running(node, preexec_fn=lambda: resource.setrlimit(resource.RLIMIT_NOFILE, limits)), node.link() as link:
@@ -195,10 +195,10 @@ def try_few(asked, folder):
         for number in range(EDITS):
             text = b'["set","few/n%d","%s"]' % (number, b"x" * BYTES)
             answer = link.answer(node.text("POST", "/edits", text))
-            want(b'"dot":["a",' in answer.body, f"beside {len(idle)} idle connections edit {number} is answered {answer}")
+            want(b'"dot":["a",' in answer.body, f"beside {len(idle)} idle connections an edit is answered {answer}")
             files.add((node.folder / "a.rds").stat().st_ino)
             held.add(len(list(pathlib.Path(f"/proc/{node.child.pid}/fd").iterdir())))
-        want(max(held) > DESCRIPTORS - 50, f"beside {len(idle)} idle connections a node has at most {max(held)} descriptors")
+        want(max(held) > DESCRIPTORS - 50, f"beside {len(idle)} idle connections a node has {max(held)} descriptors")
         want(len(files) > 1, f"{EDITS} edits of {BYTES} bytes are all appended")
         for each in idle:
             each.close()
