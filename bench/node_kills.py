@@ -89,13 +89,12 @@ def try_kill(asked, folder):
     return f"{done}; {try_put(asked, folder / 'put')}"
 
 
-# What others do to the file of a node, in its folder: what they put there is the group 'other', or the node's file as
-# it was after one edit.
+# What others do to the file of a node, and the group of what they put there: 'g' is the node's own, as after one edit.
 PUTS = {
-    "another group's file is moved to it": (lambda there: os.rename(there / "other.rds", there / "a.rds"), "other"),
-    "another group's file is copied to it": (lambda there: shutil.copyfile(there / "other.rds", there / "a.rds"), "other"),
-    "a backup is moved to it": (lambda there: os.rename(there / "backup", there / "a.rds"), "g"),
-    "a backup is copied over it": (lambda there: shutil.copyfile(there / "backup", there / "a.rds"), "g"),
+    "another group's file is moved to it": (os.rename, "other"),
+    "another group's file is copied over it": (shutil.copyfile, "other"),
+    "a backup is moved to it": (os.rename, "g"),
+    "a backup is copied over it": (shutil.copyfile, "g"),
 }
 # Edits that are appended as a record, and that have FILE written anew.
 FEW = b'["set","more/n0",0]'
@@ -113,7 +112,7 @@ def try_put(asked, folder):
             edit(link, node, 1)
             shutil.copyfile(node.folder / "a.rds", node.folder / "backup")
             edit(link, node, 2)
-            put(node.folder)
+            put(node.folder / ("backup" if group == "g" else "other.rds"), node.folder / "a.rds")
             held = (node.folder / "a.rds").read_bytes()
             with contextlib.suppress(ConnectionError, Ended):
                 answer = link.answer(node.text("POST", "/edits", lines))
