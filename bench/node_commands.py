@@ -214,6 +214,7 @@ def try_none(asked, folder):
     wordless = response(b"no", status=b"503 Service Unavailable")
     worded = response(b'{"status":500,"text":"no (1)"}', status=b"500 Internal Server Error")
     hostile = response(b'{"status":500,"text":"\x1b[2J"}', status=b"500 Internal Server Error")
+    page = response(b"<!doctype html><title>ok</title>\n", kind=b"text/html")
     for answer, due, note in (
         (known, b"fault 16: TooManyDots\n", "refused: 400: 16 TooManyDots"),
         (ahead, b"fault 23: PeerEnded\n", "refused: 409: 10 OwnAhead"),
@@ -221,6 +222,7 @@ def try_none(asked, folder):
         (worded, b"fault 23: PeerEnded\n", "refused: 500: no (1)\n"),
         (hostile, b"fault 23: PeerEnded\n", "refused: 500\n"),
         (b"no HTTP\r\n\r\n", b"fault 22: OutOfTurn\n", "is no HTTP/1.1"),
+        (page, b"fault 22: OutOfTurn\n", "is no node: its response has another type"),
     ):
         with Fake(says(answer)) as fake:
             for words, rest in (["set"], ["x", "1"]), *JOINS:
@@ -229,18 +231,21 @@ def try_none(asked, folder):
 
 
 def try_wrong_snapshots(asked, folder):
-    """What gives no snapshot, of which no file is made, and what gives one."""
+    """What gives no snapshot, of which no file is made, and what gives one: its bytes are read as those of a file."""
     node, _ = nodes_of(asked, folder, "ab")
     snapshot = (node.folder / "a.rds").read_bytes()
     more = record(change_text(0, State()))
-    for body in b"", b"RDS2", b'{"ok":true}\n', snapshot[:-1], snapshot + b"x", snapshot + more:
+    for body in b"", b"RDS2", b'{"ok":true}\n', snapshot[:-1], snapshot + more[:-1] + b"x" + more:
         with Fake(says(response(body))) as fake:
             found = command(node, ["init", "c.rds", "--from"], at(fake.port), ["c"])
         is_due = found[0] == 1 and found[1].startswith(b"fault ") and found[2]
         want(is_due, f"'init --from' of what gives {body} comes to {found}")
         want(not (node.folder / "c.rds").exists(), f"a file is made of {body}")
-    with Fake(by_target(snapshot=response(snapshot))) as fake:
-        comes_to(node, ["init", "c.rds", "--from"], at(fake.port), ["c"], 0, b'{"ok":true}\n')
+    due = snapshot_text(begun(read_file(snapshot).replica, "c"))
+    for number, body in enumerate([snapshot, snapshot + b"x", snapshot + more]):
+        with Fake(by_target(snapshot=response(body))) as fake:
+            comes_to(node, ["init", f"c{number}.rds", "--from"], at(fake.port), ["c"], 0, b'{"ok":true}\n')
+        want((node.folder / f"c{number}.rds").read_bytes() == due, f"of {body} another file is made than is due")
     return "what is no snapshot is refused"
 
 

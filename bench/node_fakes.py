@@ -28,11 +28,10 @@ def length_in(head):
     return int(found[1]) if found else 0
 
 
-def response(body, length=None, status=b"200 OK"):
+def response(body, length=None, status=b"200 OK", kind=b"application/octet-stream"):
     """A response, which may tell another length than that of its body."""
     length = b"%d" % len(body) if length is None else length
-    head = b"HTTP/1.1 %s\r\nContent-Type: application/octet-stream\r\nContent-Length: %s\r\n\r\n"
-    return head % (status, length) + body
+    return b"HTTP/1.1 %s\r\nContent-Type: %s\r\nContent-Length: %s\r\n\r\n" % (status, kind, length) + body
 
 
 def says(text):

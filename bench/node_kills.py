@@ -2,12 +2,14 @@
 import contextlib
 import itertools
 import json
+import os
 import random
+import shutil
 import threading
 import time
 from concurrent.futures import ThreadPoolExecutor
 
-from serving import LIMIT, Node, are_equal, drive, killed, running, soon, want
+from serving import LIMIT, NOBODY, Ended, Node, are_equal, drive, edit, killed, running, soon, want
 
 
 class Model:
@@ -83,7 +85,70 @@ def try_kill(asked, folder):
             want(document == shown, f"a node that starts again shows other than the file before, in turn {turn}")
             model.judge(document)
     want(model.count or asked.rounds < 2, "no edit was acknowledged before a kill")
-    return f"{asked.rounds} kills, {model.count:,} edits acknowledged, none lost, none found that wasn't sent"
+    done = f"{asked.rounds} kills, {model.count:,} edits acknowledged, none lost, none found that wasn't sent"
+    return f"{done}; {try_put(asked, folder / 'put')}"
+
+
+# What others do to the file of a node, and the group of what they put there: 'g' is the node's own, as after one edit.
+PUTS = {
+    "another group's file is moved to it": (os.rename, "other"),
+    "another group's file is copied over it": (shutil.copyfile, "other"),
+    "a backup is moved to it": (os.rename, "g"),
+    "a backup is copied over it": (shutil.copyfile, "g"),
+}
+# Edits that are appended as a record, and that have FILE written anew.
+FEW = b'["set","more/n0",0]'
+MANY = b"\n".join(b'["set","more/n%d","%s"]' % (number, b"x" * 1_000) for number in range(40))
+
+
+def try_put(asked, folder):
+    """What others put in the place of a node's file: the node acknowledges nothing more, and that file stays whole."""
+    folder.mkdir()
+    for number, ((what, (put, group)), lines) in enumerate(itertools.product(PUTS.items(), [FEW, MANY])):
+        node = Node(asked.program, folder / f"{number}")
+        node.told("init", "other.rds", "other", "a", "a")
+        node.start()
+        with node.link() as link:
+            edit(link, node, 1)
+            shutil.copyfile(node.folder / "a.rds", node.folder / "backup")
+            edit(link, node, 2)
+            put(node.folder / ("backup" if group == "g" else "other.rds"), node.folder / "a.rds")
+            held = (node.folder / "a.rds").read_bytes()
+            with contextlib.suppress(ConnectionError, Ended):
+                answer = link.answer(node.text("POST", "/edits", lines))
+                want(b'"dot":["a",' not in answer.body, f"where {what} an edit is answered {answer}")
+        status, said = node.child.wait(LIMIT), node.said()
+        is_due = status == 1 and said.endswith("fault 24: Device\n") and "and is left as it is\n" in said
+        want(is_due, f"where {what} a node ends with status {status}: {said}")
+        want((node.folder / "a.rds").read_bytes() == held, f"where {what} a node writes to it")
+        with running(node):
+            found, shown = node.status()["group"], node.document()["maps"]
+            due = {"k": {"maps": {}, "regs": {"n1": [1]}, "sets": {}}} if group == "g" else {}
+            want((found, shown) == (group, due), f"where {what} the next start has the group {found} with {shown}")
+    done = f"{number + 1} files that others put in a node's place stay whole"
+    return f"{done}; {try_owner(asked, folder / 'owner')}"
+
+
+def try_owner(asked, folder):
+    """A file that is written anew keeps its mode, and where root does it its owner and group."""
+    node, file = Node(asked.program, folder), folder / "a.rds"
+    if os.geteuid() == 0:
+        os.chown(file, NOBODY, NOBODY)
+    file.chmod(0o640)
+    rights = lambda: (file.stat().st_uid, file.stat().st_gid, file.stat().st_mode)
+    due, here, there = rights(), set(), set()
+    lines = [MANY.replace(b"more", b"m%d" % number) for number in range(10)]
+    for text in lines:
+        node.told("edit", "a.rds", given=text)
+        here.add(file.stat().st_ino)
+        want(rights() == due, f"edits leave {file} with {rights()}, where {due} is due")
+    with running(node):
+        for text in lines:
+            node.answer("POST", "/edits", text)
+            there.add(file.stat().st_ino)
+            want(rights() == due, f"a node leaves {file} with {rights()}, where {due} is due")
+    want(min(len(here), len(there)) > 1, f"{file} wasn't written anew: {here}, {there}")
+    return "owner, group and mode stay where it is written anew"
 
 
 # For how long three nodes are under load around each kill, in seconds, and by how many clients each.

@@ -2,7 +2,9 @@
 import contextlib
 import itertools
 import json
+import os
 import pathlib
+import re
 import shutil
 import threading
 import time
@@ -307,12 +309,13 @@ def judge_told(a, fakes):
 
 
 def try_fork(asked, folder):
-    """Copies of a file that run as nodes of their own: one that meets the original, and one that meets its peer.
+    """Copies of a file that run as nodes of their own: one that meets the original, one that meets its peer, and one
+    that the peer meets.
 
     The first was edited as often as the original, so that both have seen the same dots."""
-    a, b, copy, older = nodes_of(asked, folder, ["a", "b", "a-copy", "a-older"])
+    a, b, copy, older, met = nodes_of(asked, folder, ["a", "b", "a-copy", "a-older", "a-met"])
     put_in(a, 1)
-    for node in copy, older:
+    for node in copy, older, met:
         shutil.copy(a.folder / "a.rds", node.folder / "a.rds")
     put_in(a, 2)
     put_in(copy, 3)
@@ -321,19 +324,37 @@ def try_fork(asked, folder):
     a.meets(b.port)
     copy.meets(a.port, every=1)
     older.meets(b.port, every=1)
-    with all_running(a, b, copy, older):
+    b.meets(met.port, every=1)
+    with all_running(a, b, copy, older, met):
         arrives(b, 2, 10)
         tells(copy, a.port, ["21", "SameReplica"])
         tells(older, b.port, ["10", "OwnAhead"])
+        tells(b, met.port, ["10", "OwnAhead"])
         for node in copy, older:
             counts = node.count("rds_peer_refusals_total"), node.count("rds_peers_met")
             want(counts[0] and not counts[1], f"a fork is refused and met {counts} times")
-            put(node, 6)
             want(node.answer("GET", "/doc").status == 200, "a fork doesn't serve")
+        put(copy, 6)
+        refuses_edits(older)
+        refuses_edits(met)
         put(a, 7)
         arrives(b, 7, AT_ONCE)
         want(not shows(a, 3) and not shows(b, 6), "an edit of a fork has come to others")
-    return "a fork is told by itself (21) and behind a peer (10), and goes on"
+    return "a fork is told by itself (21) and goes on; one behind its peers is told (10), and refuses edits"
+
+
+def refuses_edits(node):
+    """A node whose file is older than what its replica has sent takes no edit, says so once, and does all else."""
+    due = b'{"fault":10,"name":"OwnAhead","text":"the file is older than what its replica has sent"}'
+    before = (node.folder / "a.rds").read_bytes()
+    for target, body in ("/edits", b'["set","k/n6",6]\n'), ("/edits", b""), ("/grow", b"d"):
+        answer = node.answer("POST", target, body)
+        want((answer.status, answer.body) == (409, due), f"a node that is behind answers {target} by {answer}")
+    want((node.folder / "a.rds").read_bytes() == before, "a node that is behind has changed its file")
+    want(shows(node, 1) and not shows(node, 6), "a node that is behind doesn't show what it has")
+    begin = "a.rds: is older than what its replica has sent, and edits are refused from here on: "
+    lines = [line for line in node.said().splitlines() if line.startswith(begin)]
+    want(len(lines) == 1, f"a node that is behind says {lines}")
 
 
 def put_in(node, number):
@@ -363,6 +384,31 @@ def try_gone(asked, folder):
     return f"a peer that begins is met {took[0]:.1f} s after that, and {took[1]:.1f} s after it was killed"
 
 
+def try_unfound(asked, folder):
+    """A peer whose name isn't found, then elsewhere, and then found, by a table of hosts of the node's own."""
+    if os.geteuid():
+        return "a name that isn't found isn't tried, but by root"
+    a, b = nodes_of(asked, folder, "ab", TOKEN)
+    hosts, known, program = folder / "hosts", pathlib.Path("/etc/hosts").read_text(), folder / "program"
+    hosts.write_text(known)
+    begin = f"mount --bind {hosts} /etc/hosts && exec {a.program}"
+    program.write_text(f'#!/bin/sh\nexec unshare -m sh -c \'{begin} "$@"\' sh "$@"\n')
+    program.chmod(0o755)
+    a.program = f"{program}"
+    a.meets(b.port, every=1, host="peer.invalid")
+    with all_running(a, b):
+        lines = lambda: re.findall(rf"^peer peer\.invalid:{b.port}: (.*)$", a.said(), re.M)
+        want(len(lines()) == 1 and lines()[0].startswith("lost: "), f"of a name that isn't found is told {lines()}")
+        put(a, 1)
+        hosts.write_text(f"{known}\n127.0.0.9 peer.invalid\n")
+        time.sleep(2.5)
+        hosts.write_text(f"{known}\n{HOST} peer.invalid\n")
+        took = arrives(b, 1, 20)
+        are_met(a, 1)
+        want(lines()[1:] == ["met"], f"of a name that is found again is told {lines()}")
+    return f"a peer whose name isn't found, and then elsewhere, is met {took:.1f} s after it is found"
+
+
 def meeting(part):
     """A part that gets its nodes by `nodes_of`."""
     named = lambda asked, folder: part(nodes_of, asked, folder)
@@ -371,7 +417,7 @@ def meeting(part):
 
 
 MEETINGS = [meeting(part) for part in (try_one_sided, try_scattered, try_told_fork, try_idle)]
-PARTS = [try_both, try_one_way, try_ring, try_token, try_join, try_fork, *MEETINGS, try_gone, try_wrong]
+PARTS = [try_both, try_one_way, try_ring, try_token, try_join, try_fork, *MEETINGS, try_gone, try_unfound, try_wrong]
 
 
 def try_peers(asked, folder):

@@ -4,6 +4,7 @@ import itertools
 import json
 import os
 import re
+import shutil
 import signal
 import socket
 import struct
@@ -11,7 +12,7 @@ import subprocess
 import time
 
 from plain_model import Replica, State, appended, change_text, edited, grown, mark_of, read_file, snapshot_text, tag_of
-from serving import LIMIT, TOKEN, UPGRADE, Node, Noted, killed, running, soon, want
+from serving import HOST, LIMIT, NOBODY, TOKEN, UPGRADE, Node, Noted, killed, running, soon, want
 
 # A request, and below it the status, the kind of content and the body that are due. '|' ends a line of a body, and
 # '..' is anything.
@@ -239,8 +240,8 @@ def judge_pipes(node):
 
 
 def of_length(node, length):
-    """An edit of no line that is so long as a whole."""
-    body = b"\n" * max(length * 7 // 8, length - 8_000)
+    """A request to edit that is so long as a whole. Its one line edits nothing."""
+    body = b" " * max(length * 7 // 8, length - 8_000)
     return node.text("POST", "/edits", body, "x: " + "y" * (length - len(node.text("POST", "/edits", body, "x: "))))
 
 
@@ -550,6 +551,36 @@ def judge_reach(node):
     want(is_due, f"an address that others reach, without a token, is answered {refused}")
 
 
+def judge_unwritable(node):
+    """A file that can be read and not written: no node starts on it."""
+    folder, file, who = node.folder / "shut", node.folder / "shut/a.rds", {}
+    folder.mkdir()
+    program = shutil.copy(node.program, folder)
+    node.told("init", f"{file}", "g", "a", "a")
+    words = [program, "run", "a.rds", "--http", f"{HOST}:{node.port}"]
+    if os.geteuid() == 0:
+        who = {"user": NOBODY, "group": NOBODY, "extra_groups": []}
+        for place in node.folder, node.folder.parent:
+            place.chmod(0o711)
+        folder.chmod(0o777)
+    rows = [(0o444, "its mode lets nobody write it")] + [(0o644, "Permission denied")] * bool(who)
+    for mode, note in rows:
+        file.chmod(mode)
+        ran = subprocess.run(words, cwd=folder, capture_output=True, timeout=LIMIT, **who)
+        is_due = (ran.returncode, ran.stdout) == (1, b"fault 24: Device\n") and note.encode() in ran.stderr
+        want(is_due and ran.stderr.count(b"\n") == 1, f"'run' of a file of mode {mode:o} comes to {ran}")
+
+
+def judge_lines(node):
+    """How many lines a body of edits may have."""
+    with node.link() as link:
+        for count, status in (524_287, 200), (524_288, 413), (524_287, 200):
+            answer = link.answer(node.text("POST", "/edits", b"\n" * count))
+            want(answer.status == status, f"edits of {count} line feeds are answered {answer}")
+            is_due = status == 200 or answer.body.startswith(b'{"fault":15,"name":"TooLong"')
+            want(is_due, f"edits of too many lines are answered {answer}")
+
+
 def stop_and_go_on(node):
     """Stops the process for a moment, as a shell does: it has to serve again."""
     node.child.send_signal(signal.SIGSTOP)
@@ -563,7 +594,8 @@ def try_requests(asked, folder):
     with running(node):
         comers = lambda node: judge_comers(node, MAY_COME)
         tags = judge_tags, judge_ask_tags
-        for part in judge_table, judge_heads, judge_pipes, judge_pieces, judge_texts, judge_tagged, *tags, comers, stop_and_go_on:
+        texts = judge_pieces, judge_lines, judge_texts, judge_tagged
+        for part in judge_table, judge_heads, judge_pipes, *texts, *tags, comers, stop_and_go_on:
             with noted:
                 part(node)
         document = node.document()
@@ -577,8 +609,9 @@ def try_requests(asked, folder):
     node = Node(asked.program, folder / "growing")
     with running(node), noted:
         judge_growth(node)
-    with noted:
-        judge_reach(node)
+    for part in judge_reach, judge_unwritable:
+        with noted:
+            part(node)
     with noted:
         try_log(asked, folder / "log")
     noted.end()

@@ -3,7 +3,9 @@ import contextlib
 import itertools
 import json
 import multiprocessing
+import pathlib
 import random
+import resource
 import socket
 import struct
 import time
@@ -91,6 +93,8 @@ def judge_refused(node):
         "a target of 20 kB": (414, node.text("GET", "/doc/" + "x" * 20_000)),
         "a body of 70 MB": (413, post("Content-Length: 70000000")),
         "a body of 2^63 bytes": (413, post(f"Content-Length: {1 << 63}")),
+        "edits of 524,289 lines": (413, node.text("POST", "/edits", b"\n" * 524_288)),
+        "edits of 64,000,000 lines": (413, node.text("POST", "/edits", b"\n" * 64_000_000)),
         "two lengths": (400, post("Content-Length: 2", "Content-Length: 3") + b"[]\n"),
         "a length below 0": (400, post("Content-Length: -1")),
         "a coding": (501, post("Transfer-Encoding: gzip, chunked")),
@@ -174,6 +178,37 @@ def judge_crowd(node, count=1_100, most=1_024):
     return few
 
 
+# So many descriptors a node may have where they are few, and so many edits it has to do then. Each has so many bytes
+# that FILE is written anew now and then.
+DESCRIPTORS = 1_024
+EDITS, BYTES = 60, 1_000
+
+
+def try_few(asked, folder):
+    """More idle connections than a node may have descriptors: edits are kept, also where FILE is written anew."""
+    node, limits = Node(asked.program, folder), (DESCRIPTORS, DESCRIPTORS)
+    files, held = set(), set()
+    with running(node, preexec_fn=lambda: resource.setrlimit(resource.RLIMIT_NOFILE, limits)), node.link() as link:
+        edit(link, node, 0)
+        idle = [node.link().socket for _ in range(1_100)]
+        time.sleep(1.5)
+        for number in range(EDITS):
+            text = b'["set","few/n%d","%s"]' % (number, b"x" * BYTES)
+            answer = link.answer(node.text("POST", "/edits", text))
+            want(b'"dot":["a",' in answer.body, f"beside {len(idle)} idle connections an edit is answered {answer}")
+            files.add((node.folder / "a.rds").stat().st_ino)
+            held.add(len(list(pathlib.Path(f"/proc/{node.child.pid}/fd").iterdir())))
+        want(max(held) > DESCRIPTORS - 50, f"beside {len(idle)} idle connections a node has {max(held)} descriptors")
+        want(len(files) > 1, f"{EDITS} edits of {BYTES} bytes are all appended")
+        for each in idle:
+            each.close()
+        soon(lambda: is_served(node), "a new client isn't served once all others have gone")
+        document = node.document()
+    want(len(document["maps"]["few"]["regs"]) == EDITS, f"of {EDITS} edits the document has {document}")
+    want(node.shown() == document, "show of the file differs from /doc")
+    return f"{EDITS} edits beside {len(idle):,} idle connections, of {DESCRIPTORS:,} descriptors"
+
+
 def serve_good(node, over, pipe):
     """A client that edits and reads what it has set until all is over: how long each edit took, and what went wrong."""
     took, problem = [], None
@@ -229,4 +264,4 @@ def try_strangers(asked, folder):
     for place, token in ("open", None), ("shut", TOKEN):
         with running(Node(asked.program, folder / place, token)) as node:
             told.append(bother(node, chance, asked.strangers))
-    return f"without a token {told[0]}; with one {told[1]}"
+    return f"without a token {told[0]}; with one {told[1]}; {try_few(asked, folder / 'few')}"

@@ -19,8 +19,12 @@ HOST = "127.0.0.1"
 TOKEN = "0123456789abcdef-._~"
 KEY = base64.b64encode(bytes(16)).decode()
 UPGRADE = ["Connection: Upgrade", "Upgrade: websocket", "Sec-WebSocket-Version: 13", f"Sec-WebSocket-Key: {KEY}"]
+# The number of the user and the group 'nobody'.
+NOBODY = 65_534
 # No answer, and no start, may take longer.
 LIMIT = 60
+# The first byte of a ping (RFC 6455).
+PING = 0x89
 LENGTH = re.compile(rb"\r\ncontent-length: *(\d+)", re.I)
 
 Answer = collections.namedtuple("Answer", "status headers body")
@@ -219,18 +223,21 @@ class Link:
         headers = {name.lower(): value.strip() for name, _, value in (line.partition(":") for line in lines)}
         return Answer(int(first[9:12]), headers, body)
 
-    def frame(self, seconds):
-        """The next frame of a WebSocket, its first byte and its payload; None where none comes."""
+    def frame(self, seconds, is_ping_due=False):
+        """The next frame of a WebSocket, its first byte and its payload; None where none comes. A ping, which a node
+        sends where it is quiet, is left aside unless it is due."""
         self.socket.settimeout(seconds)
         with contextlib.suppress(TimeoutError, ConnectionError):
-            while not (place := end_of_frame(self.rest)):
-                more = self.socket.recv(1 << 16)
-                if not more:
-                    return None
-                self.rest += more
-            begin, end = place
-            first, payload, self.rest = self.rest[0], self.rest[begin:end], self.rest[end:]
-            return first, payload
+            while True:
+                while not (place := end_of_frame(self.rest)):
+                    more = self.socket.recv(1 << 16)
+                    if not more:
+                        return None
+                    self.rest += more
+                begin, end = place
+                first, payload, self.rest = self.rest[0], self.rest[begin:end], self.rest[end:]
+                if first != PING or is_ping_due:
+                    return first, payload
         return None
 
     def is_ended(self, seconds):
