@@ -235,7 +235,7 @@ impl<'a> Peer<'a> {
             if self.destination.turn() {
                 return Outcome::NONE;
             }
-            self.destination.forget();
+            self.destination.doubt();
         }
         self.schedule.fail(now);
         let standing = trouble.standing();
@@ -327,7 +327,7 @@ impl<'a> Peer<'a> {
         }
     }
 
-    // Begins a connection where there is none. Where no address is at hand its name is looked up, for which all waits.
+    // Begins a connection where there is none. Its name may be looked up before, for which all waits.
     fn call<H: Disk + Net>(
         &mut self,
         rt: &H,
