@@ -1,18 +1,21 @@
 -- What a request changed, and how that is noted.
-use Rattle.std.proofs.Common.{◌≡◌, ◌≢◌, ◌||◌, ◌∙◌, ℕ, Bool, true, false, not, List, None, Some, Result, Ok, Err, OnOk, refl, sym, ap, subst, inr}
+use Rattle.std.proofs.Common.{◌≡◌, ◌≢◌, ◌<◌, ◌≤◌, ◌||◌, ◌∙◌, ℕ, Bool, true, false, not, List, None, Some, Result, Ok, Err, OnOk, refl, sym, ap, subst, inl, inr}
+use Rattle.std.specs.Str.{is_utf8}
 use Rattle.http.specs.declared.request.Request.{Request}
 use Rattle.http_server.specs.declared.response.Response.{Response}
 use Rattle.rds_names.specs.declared.fault.Fault.{Fault}
-use Rattle.rds_names.specs.declared.fault.Fault.TheVariants.{Cut, Memory}
+use Rattle.rds_names.specs.declared.fault.Fault.TheVariants.{BadName, Cut, Memory, TooLong}
 use Rattle.rds_state.specs.Fits.{ReplicaValue}
 use Rattle.rds_store.specs.Meetings.{RefusesTaking}
 use Rattle.rds_http.specs.Access.{denial}
 use Rattle.rds_http.specs.Answers.{Answers, AnswersBy, Does, DoesPost, KeepsRest, asked_in, may_change, place_in}
-use Rattle.rds_http.specs.Changes.{AnswersEdits, AnswersQuestion, AnswersTake, AnswersTexts}
+use Rattle.rds_http.specs.Changes.{AnswersEdits, AnswersQuestion, AnswersTake, AnswersTexts, RefusesNewName}
 use Rattle.rds_http.specs.Handshakes.{headers_of}
+use Rattle.rds_http.specs.Lines.{line_count}
 use Rattle.rds_http.specs.Refusals.{IsDenied, TellsFault}
 use Rattle.rds_http.specs.Site.{SiteValue}
 use Rattle.rds_http.specs.declared.access.Denied.{Denied}
+use Rattle.rds_http.specs.declared.lines.TheConstants.{MOST_LINES}
 use Rattle.rds_http.specs.declared.routes.Post.{Post}
 use Rattle.rds_http.specs.declared.routes.Post.TheVariants.{Answer, Take}
 
@@ -38,6 +41,19 @@ pub edits_refused : (body : List ℕ) (before after : ReplicaValue) (response : 
     → AnswersEdits body before after response
 edits_refused body before after response fault few memory same told =
     inl (few, inr (record { same = same; told = subst (λ f. TellsFault f response) memory told }))
+
+-- one of too many lines is refused whole
+pub edits_too_many : (body : List ℕ) (before : ReplicaValue) (response : Response)
+    → MOST_LINES < line_count body → TellsFault TooLong response → AnswersEdits body before before response
+edits_too_many body before response many told = inr (many, record { same = refl; told = told })
+
+of_test : (is : Bool) → (is ≡ true → ⊥) → is ≡ false
+of_test true never = absurd (never refl)
+of_test false never = refl
+
+-- bytes that are no text are no name
+pub no_name : (body : List ℕ) (before : ReplicaValue) → (is_utf8 body ≡ true → ⊥) → RefusesNewName body before BadName
+no_name body before never = inl (of_test (is_utf8 body) never, refl)
 
 -- what answers a question is refused
 pub texts_refused : (question answer : List ℕ) (before after : ReplicaValue) (response : Response) (fault : Fault)

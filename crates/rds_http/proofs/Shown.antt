@@ -11,9 +11,11 @@ use Rattle.rds_names.specs.declared.fault.Fault.{Fault}
 use Rattle.rds_state.specs.Fits.{ReplicaValue}
 use Rattle.rds_state.specs.Value.{StateValue}
 use Rattle.rds_store.specs.Meetings.{MayAsk}
-use Rattle.rds_http.specs.Looks.{IsToldOf, IsValueAt, ShowsQuestion, TellsQuestion, own_field, path_in}
+use Rattle.rds_http.specs.Looks.{AnswersLook, IsToldOf, IsValueAt, ShowsQuestion, ShowsSnapshot, TellsQuestion, own_field, path_in}
 use Rattle.rds_http.specs.Replies.{tag_fields, type_field}
 use Rattle.rds_http.specs.Tags.{IsTagOf, is_known, tag_text}
+use Rattle.rds_http.specs.declared.routes.Look.{Look}
+use Rattle.rds_http.specs.declared.routes.Look.TheVariants.{Snapshot}
 use Rattle.rds_http.specs.declared.tag.Tag.{Tag}
 
 -- what is known isn't told
@@ -54,3 +56,9 @@ question_told headers held tag text bytes before response is text_is unknown ask
     subst (λ t. IsResponse 200 (own_field held ∷ kind ∷ tag_fields t) bytes.items response) text_is behind in
     let due : TellsQuestion false (tag_text tag) held response = (bytes, asks, tagged) in
     inl (tag, is, subst (λ k. TellsQuestion k (tag_text tag) held response) (sym (ap (is_known headers) (sym text_is) ∙ unknown)) due)
+
+-- the snapshot of the document is
+pub snapshot_shown : (look : Look) (place : List ℕ) (headers : Entries FieldValue) (before document : ReplicaValue) (response : Response)
+    → look ≡ Snapshot → document ≡ before → ShowsSnapshot document response → AnswersLook look before place headers response
+snapshot_shown look place headers before document response is same shown =
+    subst (λ l. AnswersLook l before place headers response) (sym is) (subst (λ d. ShowsSnapshot d response) same shown)

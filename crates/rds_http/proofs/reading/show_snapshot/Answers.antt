@@ -1,0 +1,6 @@
+use Rattle.std.proofs.Common.{inl}
+use Rattle.rds_http.proofs.Changed.{on_ok}
+use Rattle.rds_http.proofs.reading.show_snapshot.Goals as goal
+
+pub returns-in-Ok : goal.returns-in-Ok
+returns-in-Ok c = on_ok c.fill.result (λ told. inl (c.in-Ok.bytes, c.in-Ok.ensures.text, told)) c.fill.ensures
