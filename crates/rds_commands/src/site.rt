@@ -52,7 +52,7 @@ pub trait RunSite<H> {
     fn sync_site(&self, rt: &H, words: SyncWords<'_>, timeout: Option<Duration>) -> Visit
         ensures taken { IfSome result.taken (IsBrought words.entry.file.now) };
 
-    /// Asks the site at the address, `http://HOST:PORT`, and answers what it says. A fault by which it refuses comes back
-    /// as that, such as `BadName` and `BadRoster` of a name. Why there is no answer is told on standard error.
+    /// Asks the site at the address, `http://HOST:PORT`, and answers what it says. A fault by which it refuses comes
+    /// back as that, such as `BadName` and `BadRoster` of a name. Why there is no answer is told on standard error.
     fn call_site(&self, rt: &H, address: &str, request: SiteRequest<'_>) -> Result<Vec<u8>, Fault>;
 }
