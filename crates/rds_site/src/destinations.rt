@@ -21,8 +21,10 @@ const LONGEST: usize = 261;
 #[derive(Drop)]
 pub struct Destination<'a> {
     name: &'a str,
-    // Where it was when its name was looked up last. None where that is to be done anew.
+    // Where it was when its name was found last. None where it never was.
     addresses: Vec<SocketAddr>,
+    // Whether the name is to be looked up before the next try.
+    is_stale: bool,
     // Which address is tried next.
     at: usize,
     authorization: Option<Vec<u8>>,
@@ -57,17 +59,26 @@ impl<'a> Destination<'a> {
         false
     }
 
-    /// Looks its name up, unless it was found before and isn't forgotten.
+    /// Looks its name up where that is due. Where it isn't found, it may still be where it was before.
     pub fn look_up<H: Net + AllocGlobal>(&mut self, rt: &H) -> io::Result<()> {
-        if self.addresses.is_empty() {
-            self.addresses = look_up(rt, self.name)?;
+        if !self.is_stale {
+            return Ok(());
         }
-        Ok(())
+        match look_up(rt, self.name) {
+            Ok(addresses) => {
+                self.addresses = addresses;
+                self.at = 0;
+                self.is_stale = false;
+                Ok(())
+            }
+            Err(error) if self.addresses.is_empty() => Err(error),
+            Err(_) => Ok(()),
+        }
     }
 
-    /// Forgets where it was, so that its name is looked up before the next try.
-    pub fn forget(&mut self) {
-        self.addresses.clear();
+    /// Its name is to be looked up before the next try.
+    pub fn doubt(&mut self) {
+        self.is_stale = true;
         self.at = 0;
     }
 }
@@ -163,6 +174,7 @@ fn destination_of<'a>(
 {
     Ok(Destination {
         name,
+        is_stale: addresses.is_empty(),
         addresses,
         at: 0,
         authorization: authorization(alloc, token)?,

@@ -1,5 +1,7 @@
 //! The log of requests: a line for each on standard output, where that is wished.
-ghost use Rattle.std.specs.Prelude.{◌≡◌};
+ghost use Rattle.std.specs.Prelude.{◌≡◌, ◌&&◌, IsTrue, OnErr, OnOk};
+ghost use Rattle.http_server.specs.Response.{IsBlank};
+ghost use Rattle.rds_site.specs.Behind.{AnswersOrRefuses, is_edit};
 
 use crate::behind::{is_edit, refuse_edit, shows_behind};
 use bytes::Bytes;
@@ -87,16 +89,37 @@ where
         request: &Request<Bytes>,
         response: &mut Response,
     ) -> Result<(), AllocError> {
-        let is_edit = is_edit(request);
-        if self.is_behind && is_edit {
-            refuse_edit(response)?;
-        } else {
-            self.site.call(request, response)?;
-            self.is_behind |= shows_behind(request, response);
-        }
+        self.answer(request, response)?;
         if let Some(log) = &mut self.log {
             log.note(self.client, request, response);
         }
+        Ok(())
+    }
+}
+
+impl<H: Disk> LoggedSite<'_, H>
+where
+    H::File: LockFile,
+{
+    // Has the site answer a request, and notes whether that shows that its file is behind; or refuses it.
+    fn answer(
+        &mut self,
+        request: &Request<Bytes>,
+        response: &mut Response,
+    ) -> Result<(), AllocError>
+        requires { IsBlank response.old }
+        ensures answered { OnOk result
+            (AnswersOrRefuses (self.old.is_behind && is_edit request.now) self.old.site request.now response.new
+            self.new.site) }
+        ensures behind { IsTrue self.old.is_behind → IsTrue self.new.is_behind }
+        ensures err { OnErr result (self.new ≡ self.old) }
+    {
+        let is_edit = is_edit(request);
+        if self.is_behind && is_edit {
+            return refuse_edit(response);
+        }
+        self.site.call(request, response)?;
+        self.is_behind |= shows_behind(request, response);
         Ok(())
     }
 }

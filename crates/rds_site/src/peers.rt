@@ -235,7 +235,7 @@ impl<'a> Peer<'a> {
             if self.destination.turn() {
                 return Outcome::NONE;
             }
-            self.destination.forget();
+            self.destination.doubt();
         }
         self.schedule.fail(now);
         let standing = trouble.standing();
@@ -327,7 +327,7 @@ impl<'a> Peer<'a> {
         }
     }
 
-    // Begins a connection where there is none. Where no address is at hand its name is looked up, for which all waits.
+    // Begins a connection where there is none. Its name may be looked up before, for which all waits.
     fn call<H: Disk + Net>(
         &mut self,
         rt: &H,
@@ -338,7 +338,11 @@ impl<'a> Peer<'a> {
         if !matches!(self.link, Link::Away) {
             return Ok(());
         }
-        self.destination.look_up(rt)?;
+        let began = Instant::now(rt).unwrap_or(now);
+        let found = self.destination.look_up(rt);
+        let ended = Instant::now(rt).unwrap_or(began);
+        self.schedule.spend(ended.duration_since(began));
+        found?;
         if let Some(address) = self.destination.address() {
             let socket = Socket::dial(rt, committed, address, line)?;
             self.link = Link::Opening(socket, now);

@@ -13,6 +13,13 @@ const LONGEST_REST: u64 = 2000;
 /// The longest wait after a failure, in seconds.
 const LONGEST_WAIT: u64 = 60;
 
+/// One that failed is tried again after so many times the time that it took here, and no sooner. All else waits while a
+/// name is looked up, which may take seconds.
+const FAILED_REST: u32 = 50;
+
+/// The longest such rest, in seconds.
+const LONGEST_FAILED_REST: u64 = 600;
+
 /// A client makes others wait where what it asks for takes so many milliseconds.
 const LONG: u64 = 5;
 
@@ -86,15 +93,19 @@ impl Schedule {
         self.failures = 0;
     }
 
-    /// The exchange under way failed, or couldn't begin: it is tried again after 1, 2, 4, .. up to 60 seconds.
+    /// The exchange under way failed, or couldn't begin: it is tried again after 1, 2, 4, .. up to 60 seconds, and later
+    /// where it took long here.
     pub fn fail(&mut self, now: Instant) {
         let seconds = if self.failures < 6 {
             1 << self.failures
         } else {
             LONGEST_WAIT
         };
+        let rest = self.spent.saturating_mul(FAILED_REST);
+        let rest = rest.min(Duration::from_secs(LONGEST_FAILED_REST));
         self.due = now;
-        self.earliest = after(now, Duration::from_secs(seconds));
+        self.earliest = after(now, rest.max(Duration::from_secs(seconds)));
+        self.spent = Duration::ZERO;
         self.failures = self.failures.saturating_add(1);
     }
 }
