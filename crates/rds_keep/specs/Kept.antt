@@ -1,5 +1,6 @@
--- What a file holds: a snapshot, records of changes behind it, and a torn end; and which replicas can be kept.
-use Rattle.std.specs.Prelude.{◌≡◌, ◌<◌, ◌≤◌, ℕ, List, [], ◌∷◌, ◌++◌, length, map, take, Err}
+-- What a file holds: a snapshot, its checksum, records of changes behind them, and a torn end; and which replicas can be
+-- kept.
+use Rattle.std.specs.Prelude.{◌≡◌, ◌<◌, ◌≤◌, ℕ, Bool, List, [], ◌∷◌, ◌++◌, length, map, take, Err}
 use Rattle.rds_names.specs.declared.fault.Fault.{Fault}
 use Rattle.rds_names.specs.declared.fault.Fault.TheVariants.{Memory, Cut, Bad, TooLong, Device}
 use Rattle.rds_state.specs.Fits.{ReplicaValue}
@@ -9,6 +10,7 @@ use Rattle.rds_codec.specs.declared.formats.Format.{Format}
 use Rattle.rds_codec.specs.declared.limits.TheConstants.{LIMIT}
 use Rattle.rds_journal.specs.Records.{IsPayload, IsTorn, journal_text}
 use Rattle.rds_keep.specs.Changes.{ChangeValue, IsRedone, change_text}
+use Rattle.rds_keep.specs.Sums.{summed_text}
 use Rattle.rds_keep.specs.declared.layout.Layout.{Layout}
 
 -- the records of changes that a replica of this number took
@@ -21,16 +23,17 @@ AreMade old [] new = old ≡ new
 AreMade old (c ∷ changes) new =
     (next : ReplicaValue) × IsRedone old c next × IsPayload (change_text old.own c) × AreMade next changes new
 
--- the bytes are the snapshot of a replica, of so many bytes in a format, and behind it the records of changes, which
--- made this replica of it
+-- the bytes are the snapshot of a replica in a format, with its checksum where it has one, of so many bytes; and behind
+-- it the records of changes, which made this replica of it
 pub record IsFile (bytes : List ℕ) (format : Format) (snapshot : ℕ) (v : ReplicaValue) : Type 0 where
   pub first : ReplicaValue
+  pub is_summed : Bool
   pub changes : List ChangeValue
-  pub parts : bytes ≡ snapshot_text_in format first ++ records_text first.own changes
+  pub parts : bytes ≡ summed_text format is_summed first ++ records_text first.own changes
   pub value : IsSnapshot first
   pub within : length (snapshot_text_in format first) ≤ LIMIT
   pub made : AreMade first changes v
-  pub size : snapshot ≡ length (snapshot_text_in format first)
+  pub size : snapshot ≡ length (summed_text format is_summed first)
 
 -- the same with a torn end, which may be empty, and where these parts stand
 pub record IsStored (bytes : List ℕ) (v : ReplicaValue) (layout : Layout) : Type 0 where

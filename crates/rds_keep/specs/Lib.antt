@@ -10,3 +10,4 @@ pub mod ReadChanges
 pub mod Replay
 pub mod Snapshots
 pub mod Stored
+pub mod Sums

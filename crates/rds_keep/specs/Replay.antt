@@ -8,6 +8,7 @@ use Rattle.rds_state.specs.Fits.{ReplicaValue, coded_replica}
 use Rattle.rds_journal.specs.declared.records.TheConstants.{MOST, HEAD}
 use Rattle.rds_keep.specs.Changes.{ChangeValue, IsRedone, change_text}
 use Rattle.rds_keep.specs.Kept.{AreMade, EndsAs, records_text}
+use Rattle.rds_keep.specs.declared.sums.TheConstants.{SUM_LENGTH}
 
 -- a replica that was made of a snapshot and records, of so many bytes
 pub record ReplayValue : Type 0 where
@@ -52,13 +53,13 @@ pub record StopsAtRecord (old new : ReplayValue) (bytes : List ℕ) (e : Fault) 
 abbrev pub Loses : Option (List ℕ) → Option (List ℕ) → Type 0
 Loses before after = (lost : List ℕ) × Consumes before after lost
 
--- Known bytes lose a beginning, which is held behind what was held. No fewer bytes are held than a record may have, or
--- they are all that there is.
+-- Known bytes lose a beginning, which is held behind what was held. More bytes are held than a record may have behind
+-- that of a checksum, or they are all that there is.
 pub record HoldsMore (before after : Option (List ℕ)) (old new : List ℕ) : Type 0 where
   pub given : List ℕ
   pub consumed : Consumes before after given
   pub held : new ≡ old ++ given
-  pub end : length new ≤ MOST + HEAD → IsAtEnd after
+  pub end : length new ≤ MOST + HEAD + SUM_LENGTH → IsAtEnd after
 
 -- known bytes were read behind others, and the records before a rest were taken
 pub record ReadsRecords (old new : ReplayValue) (before after : Option (List ℕ)) (held rest : List ℕ) : Type 0 where

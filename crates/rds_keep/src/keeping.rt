@@ -5,21 +5,22 @@ ghost use Rattle.rds_codec.specs.StateTexts.{snapshot_text};
 ghost use Rattle.rds_codec.specs.declared.limits.TheConstants.{LIMIT};
 ghost use Rattle.rds_keep.specs.Parts.{AppendsFront};
 ghost use Rattle.rds_keep.specs.Snapshots.{RefusesText};
+ghost use Rattle.rds_keep.specs.Sums.{file_text};
 
 use crate::counted::Counted;
 use crate::kept::Kept;
 use crate::place::Place;
-use crate::snapshots::write_snapshot;
+use crate::sums::encode_file;
 use rds_dots::DotSet;
 use rds_names::Fault;
 use rds_state::Replica;
 use std::alloc::Global;
 
-/// Writes the replica's snapshot into the place, syncs it and renames it: only then is the replica
-/// kept. Its caller gives a place that wasn't renamed. The kept replica is this very one.
+/// Writes a new file of the replica into the place, its snapshot and the record of its checksum, syncs it and renames it:
+/// only then is the replica kept. Its caller gives a place that wasn't renamed. The kept replica is this very one.
 ///
 /// Refuses as `write_snapshot` does; a sync or a rename that fails is `Device` too. After a refusal
-/// the replica is let go; the place isn't renamed, and holds a beginning of the text, which may be all of it.
+/// the replica is let go; the place isn't renamed, and holds a beginning of the bytes, which may be all of them.
 #[tactic(auto, using(crate::proofs::TextParts::refused_after, crate::proofs::TextParts::stays_written))]
 pub fn keep_in<S: DotSet, P: Place>(
     alloc: Global,
@@ -29,18 +30,19 @@ pub fn keep_in<S: DotSet, P: Place>(
     requires { place.old.renamed ≡ false }
     ensures kept { IfOk result (λ kept. kept ≡ replica) }
     ensures bytes { OnOk result (Appends (P.contents place.old.inner)
-        (P.contents place.new.inner) (snapshot_text replica)) }
+        (P.contents place.new.inner) (file_text replica)) }
     ensures place { OnOk result (P.renamed place.new.inner ≡ true) }
     ensures renamed { place.new.renamed ≡ is_ok result }
     ensures front { OnErr result (AppendsFront (P.contents place.old.inner)
-        (P.contents place.new.inner) (snapshot_text replica)) }
+        (P.contents place.new.inner) (file_text replica)) }
     ensures limit { OnOk result (length (snapshot_text replica) ≤ LIMIT) }
     ensures refused { IfErr result (RefusesText (snapshot_text replica) place.old place.new) }
     ensures steady { OnOk result (place.new.failed ≡ place.old.failed) }
     ensures turns { place.new.turns ≡ place.old.turns }
 {
-    let kept = write_snapshot(alloc, replica, place)?;
+    let bytes = encode_file(alloc, &replica)?;
+    place.write_all(bytes.as_slice())?;
     place.sync()?;
     place.rename()?;
-    Ok(kept)
+    Ok(Kept::new(replica))
 }

@@ -6,7 +6,7 @@ use rds_codec::Format;
 pub struct Layout {
     /// The format of the snapshot.
     pub format: Format,
-    /// Where the snapshot ends.
+    /// Where the snapshot ends, with the record of its checksum where it has one.
     pub snapshot: u64,
     /// Where the last whole record ends: what stands behind it is a torn end.
     pub whole: u64,

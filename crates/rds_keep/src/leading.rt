@@ -13,6 +13,7 @@ use crate::counted::Counted;
 use rds_codec::LIMIT;
 use rds_feeds::{Progress, Unfinished};
 use rds_names::Fault;
+use sha2::{Digest, Sha256};
 use std::alloc::Global;
 use std::io::Read;
 
@@ -27,6 +28,10 @@ pub struct Leading<W> {
     pub count: usize,
     /// Those of them that stand behind the value.
     pub behind: Vec<u8>,
+    /// A hasher of all that was read before the last bytes.
+    pub hasher: Sha256,
+    /// What was read last.
+    pub last: Vec<u8>,
 }
 
 /// Each of a slice's bytes is below 256. The function does nothing: its contract is this law.
@@ -82,7 +87,7 @@ impl<R: Read> Counted<R> {
         front: Vec<u8>,
     ) -> Result<Leading<U::Whole>, Fault>
         ensures leads { IfOk result (λ x. Leads (U.finish unfinished) front.items (R.remaining self.old.inner)
-            (R.remaining self.new.inner) x.value x.count x.behind.items) }
+            (R.remaining self.new.inner) x.value x.count x.behind.items x.hasher x.last.items) }
         ensures refused { IfErr result (λ e. IfSome (R.remaining self.old.inner)
             (λ input. RefusesFront (U.finish unfinished) (front.items ++ input) e)) }
         ensures bound { IfOk result (λ x. x.count ≤ length front.items + most_read (self.old.left - self.new.left)) }
@@ -97,19 +102,26 @@ impl<R: Read> Counted<R> {
         let mut count = front.len();
         hold_bytes(front.as_slice());
         let mut held = front;
+        let mut hasher = Sha256::new();
+        // Where in those that are held the last bytes begin.
+        let mut last = 0;
         'reading: loop {
             let (progress, rest) = read_step(alloc, unfinished, &held)?;
             let rest = Vec::from_slice(alloc, rest)?;
             match progress {
                 Progress::Whole(value) => {
+                    let last = Vec::from_slice(alloc, &held[last..])?;
                     return Ok(Leading {
                         value,
                         count,
                         behind: rest,
+                        hasher,
+                        last,
                     });
                 }
                 Progress::More(next) => unfinished = next,
             }
+            hasher.update(&held[last..]);
             held = rest;
             if LIMIT < count {
                 return Err(Fault::TooLong);
@@ -121,6 +133,7 @@ impl<R: Read> Counted<R> {
             }
             hold_bytes(held.as_slice());
             count += held.len() - before;
+            last = before;
         }
     }
 }

@@ -18,6 +18,7 @@ mod reading;
 mod replay;
 mod snapshots;
 mod stored;
+mod sums;
 mod texts;
 mod writing;
 
@@ -34,3 +35,4 @@ pub use past::{Past, WasKept};
 pub use place::Place;
 pub use snapshots::{read_snapshot, write_snapshot};
 pub use stored::{Refused, Stored, decode_stored, read_stored};
+pub use sums::{SUM_LENGTH, encode_file};

@@ -1,7 +1,10 @@
 //! What a file holds: a snapshot, records of changes, and a torn end.
-ghost use Rattle.std.specs.Prelude.{◌≡◌, ◌≢◌, ◌≤◌, ◌<◌, ◌-◌, ◌+◌, ◌++◌, ◌⊎◌, List, ℕ, length, Err, IfOk, IfErr, IfSome, OnOk, MatchResult};
+ghost use Rattle.std.specs.Prelude.{◌≡◌, ◌≢◌, ◌≤◌, ◌<◌, ◌-◌, ◌+◌, ◌++◌, ◌⊎◌, List, [], ℕ, length, take, Err};
+ghost use Rattle.std.specs.Prelude.{IfOk, IfErr, IfSome, OnOk, MatchResult};
 ghost use Rattle.std.specs.Io.KnownBytes.{IsAtEnd};
-ghost use Rattle.rds_names.specs.declared.fault.Fault.TheVariants.{Device, Memory, TooLong};
+ghost use Rattle.sha2.specs.Hashers.{Holds256};
+ghost use Rattle.sha2.specs.Sha256.{sha256};
+ghost use Rattle.rds_names.specs.declared.fault.Fault.TheVariants.{Bad, Device, Memory, TooLong};
 ghost use Rattle.rds_codec.specs.Decoding.{IsOtherFault};
 ghost use Rattle.rds_codec.specs.FormatTexts.{snapshot_text_in};
 ghost use Rattle.rds_codec.specs.StateTexts.{IsSnapshot};
@@ -11,7 +14,8 @@ ghost use Rattle.rds_keep.specs.Counted.{HasFailed, most_read};
 ghost use Rattle.rds_keep.specs.Kept.{AreWhole, IsFile, IsStored, RefusesBytes};
 ghost use Rattle.rds_keep.specs.Parts.{ConsumesAtMost};
 ghost use Rattle.rds_keep.specs.Snapshots.{IsForeign};
-ghost use Rattle.rds_keep.specs.Stored.{IsFirst, LosesFirst, RefusesEnd, first_and};
+ghost use Rattle.rds_keep.specs.Stored.{IsAllOf, IsFirst, IsFront, LosesFirst, LosesFront, RefusesEnd, first_and, front_and};
+ghost use Rattle.rds_keep.specs.declared.sums.TheConstants.{SUM_LENGTH};
 
 use crate::counted::Counted;
 use crate::kept::Kept;
@@ -19,11 +23,13 @@ use crate::layout::Layout;
 use crate::leading::{Leading, decode_leading, hold_bytes};
 use crate::replay::{Replay, hold_more};
 use crate::snapshots::read_magic;
+use crate::sums::{SUM_LENGTH, behind_sum};
 use rds_codec::{Format, LIMIT, unfinished_snapshot};
 use rds_dots::DotSet;
 use rds_journal::is_torn;
 use rds_names::Fault;
 use rds_state::Replica;
+use sha2::{Digest, Sha256};
 use std::alloc::Global;
 use std::io::Read;
 
@@ -45,12 +51,22 @@ pub struct Refused {
     pub at: u64,
 }
 
-// A snapshot that bytes begin with.
+// A snapshot that bytes begin with, and their checksum.
 #[derive(Drop)]
 struct First<S: DotSet> {
     format: Format,
     replica: Replica<S>,
     length: usize,
+    sum: [u8; 32],
+}
+
+// A snapshot that bytes begin with, and the record of its checksum where it has one.
+#[derive(Drop)]
+struct Front<S: DotSet> {
+    format: Format,
+    replica: Replica<S>,
+    length: usize,
+    is_summed: bool,
 }
 
 // A snapshot of so many bytes, where that isn't above the limit. The replica gets an index where bytes are behind it.
@@ -58,12 +74,14 @@ fn first_of<S: DotSet>(
     format: Format,
     replica: Replica<S>,
     size: usize,
+    sum: [u8; 32],
     behind: &[u8],
 ) -> Result<First<S>, Fault>
     requires size { size ≡ length (snapshot_text_in format replica) }
+    requires sum { sum ≡ sha256 (snapshot_text_in format replica) }
     requires value { IsSnapshot replica }
     ensures same { IfOk result (λ first. (first.format ≡ format) × (first.replica ≡ replica)) }
-    ensures first { IfOk result (λ first. IsFirst format replica first.length) }
+    ensures first { IfOk result (λ first. IsFirst format replica first.length first.sum) }
     ensures fault { IfErr result (λ e. (e ≡ Memory) ⊎ ((e ≡ TooLong) × (LIMIT < size))) }
 {
     if LIMIT < size {
@@ -77,7 +95,18 @@ fn first_of<S: DotSet>(
         format,
         replica,
         length: size,
+        sum,
     })
+}
+
+// The SHA-256 of what a hasher holds and of the last bytes, without so many at their end.
+fn sum_of(hasher: Sha256, last: &[u8], behind: usize) -> [u8; 32]
+    requires { behind ≤ length last.now }
+    ensures { (held : List ℕ) → Holds256 hasher held → result ≡ sha256 (held ++ take (length last.now - behind) last.now) }
+{
+    let mut hasher = hasher;
+    hasher.update(&last[..last.len() - behind]);
+    hasher.finalize()
 }
 
 // Reads the snapshot that all that the reader holds begins with, and some bytes behind it.
@@ -87,8 +116,9 @@ fn read_first<S: DotSet, R: Read>(
 ) -> Result<(First<S>, Vec<u8>), Fault>
     ensures loses { IfOk result (λ x. LosesFirst (R.remaining reader.old.inner) (R.remaining reader.new.inner)
         x.0.format x.0.replica x.1.items) }
-    ensures first { IfOk result (λ x. IsFirst x.0.format x.0.replica x.0.length) }
-    ensures end { IfOk result (λ x. length x.1.items ≤ MOST + HEAD → IsAtEnd (R.remaining reader.new.inner)) }
+    ensures first { IfOk result (λ x. IsFirst x.0.format x.0.replica x.0.length x.0.sum) }
+    ensures end { IfOk result (λ x. length x.1.items ≤ MOST + HEAD + SUM_LENGTH
+        → IsAtEnd (R.remaining reader.new.inner)) }
     ensures bound { OnOk result (ConsumesAtMost (R.remaining reader.old.inner) (R.remaining reader.new.inner)
         (most_read (reader.old.turns - reader.new.left))) }
     ensures refused { IfErr result (λ e. IfSome (R.remaining reader.old.inner) (λ input. RefusesBytes input e)) }
@@ -107,13 +137,79 @@ fn read_first<S: DotSet, R: Read>(
         value,
         count,
         behind,
+        hasher,
+        last,
     } = leading;
     let size = count.saturating_sub(behind.len());
+    let sum = sum_of(hasher, &last, behind.len());
     let mut behind = behind;
     hold_more(reader, &mut behind)?;
     let (format, replica) = value;
-    let first = first_of(format, replica, size, behind.as_slice())?;
+    let first = first_of(format, replica, size, sum, behind.as_slice())?;
     Ok((first, behind))
+}
+
+// Takes the record of a snapshot's checksum, where it stands first behind it. Refuses `Bad` where that of another does.
+fn take_sum<S: DotSet>(first: First<S>, behind: &[u8]) -> Result<(Front<S>, &[u8]), Fault>
+    requires first { IsFirst first.format first.replica first.length first.sum }
+    ensures parts { IfOk result (λ x. first_and first.format first.replica behind.now
+        ≡ front_and x.0.format x.0.is_summed x.0.replica x.1.now) }
+    ensures front { IfOk result (λ x. IsFront x.0.format x.0.is_summed x.0.replica x.0.length) }
+    ensures size { IfOk result (λ x. length behind.now ≤ length x.1.now + SUM_LENGTH) }
+    ensures alone { IfOk result (λ x. (more : List ℕ) → (length behind.now ≤ MOST + HEAD → more ≡ [])
+        → IsAllOf x.0.format x.0.is_summed x.0.replica (x.1.now ++ more)) }
+    ensures refused { IfErr result (λ e. (more : List ℕ)
+        → RefusesBytes (first_and first.format first.replica (behind.now ++ more)) e) }
+    ensures fault { IfErr result (λ e. e ≡ Bad) }
+{
+    let found = behind_sum(&first.sum, behind)?;
+    let First {
+        format,
+        replica,
+        length,
+        sum: _sum,
+    } = first;
+    let (is_summed, length, behind) = match found {
+        Some(rest) => (true, length + SUM_LENGTH, rest),
+        None => (false, length, behind),
+    };
+    let front = Front {
+        format,
+        replica,
+        length,
+        is_summed,
+    };
+    Ok((front, behind))
+}
+
+// Reads the snapshot that all that the reader holds begins with, the record of its checksum where it has one, and some
+// bytes behind them.
+fn read_front<S: DotSet, R: Read>(
+    alloc: Global,
+    reader: &mut Counted<R>,
+) -> Result<(Front<S>, Vec<u8>), Fault>
+    ensures loses { IfOk result (λ x. LosesFront (R.remaining reader.old.inner) (R.remaining reader.new.inner)
+        x.0.format x.0.is_summed x.0.replica x.1.items) }
+    ensures front { IfOk result (λ x. IsFront x.0.format x.0.is_summed x.0.replica x.0.length) }
+    ensures alone { IfOk result (λ x. IfSome (R.remaining reader.new.inner)
+        (λ input. IsAllOf x.0.format x.0.is_summed x.0.replica (x.1.items ++ input))) }
+    ensures end { IfOk result (λ x. length x.1.items ≤ MOST + HEAD → IsAtEnd (R.remaining reader.new.inner)) }
+    ensures bound { OnOk result (ConsumesAtMost (R.remaining reader.old.inner) (R.remaining reader.new.inner)
+        (most_read (reader.old.turns - reader.new.left))) }
+    ensures refused { IfErr result (λ e. IfSome (R.remaining reader.old.inner) (λ input. RefusesBytes input e)) }
+    ensures foreign { IfSome (R.remaining reader.old.inner) (λ input. IsForeign input
+        → ConsumesAtMost (R.remaining reader.old.inner) (R.remaining reader.new.inner) 4) }
+    ensures fault { IfErr result (λ e. (e ≡ Device) ⊎ IsOtherFault e) }
+    ensures counted { result ≡ Err Device → HasFailed reader.old reader.new }
+    ensures steady { result ≢ Err Device → reader.new.failed ≡ reader.old.failed }
+    ensures left { reader.new.left ≤ reader.old.turns }
+    ensures turns { reader.new.turns ≡ reader.old.turns }
+    ensures renamed { reader.new.renamed ≡ reader.old.renamed }
+{
+    let (first, behind) = read_first(alloc, reader)?;
+    let (front, rest) = take_sum(first, &behind)?;
+    let rest = Vec::from_slice(alloc, rest)?;
+    Ok((front, rest))
 }
 
 // What was read, where the rest is a torn end.
@@ -159,25 +255,27 @@ fn ended<S: DotSet>(
     })
 }
 
-// Reads the records behind a snapshot.
+// Reads the records behind a front.
 fn read_behind<S: DotSet, R: Read>(
     alloc: Global,
     reader: &mut Counted<R>,
-    first: First<S>,
+    front: Front<S>,
     behind: Vec<u8>,
 ) -> Result<Stored<S>, Refused>
-    requires first { IsFirst first.format first.replica first.length }
+    requires front { IsFront front.format front.is_summed front.replica front.length }
+    requires alone { IfSome (R.remaining reader.old.inner)
+        (λ input. IsAllOf front.format front.is_summed front.replica (behind.items ++ input)) }
     requires held { length behind.items ≤ MOST + HEAD → IsAtEnd (R.remaining reader.old.inner) }
     ensures stored { IfOk result (λ s. IfSome (R.remaining reader.old.inner)
-        (λ input. IsStored (first_and first.format first.replica (behind.items ++ input)) s.kept s.layout)) }
+        (λ input. IsStored (front_and front.format front.is_summed front.replica (behind.items ++ input)) s.kept s.layout)) }
     ensures value { IfOk result (λ s. IsSnapshot s.kept) }
     ensures end { OnOk result (IsAtEnd (R.remaining reader.new.inner)) }
     ensures bound { OnOk result (ConsumesAtMost (R.remaining reader.old.inner) (R.remaining reader.new.inner)
         (most_read (reader.old.left - reader.new.left))) }
     ensures refused { IfErr result (λ r. IfSome (R.remaining reader.old.inner)
-        (λ input. RefusesBytes (first_and first.format first.replica (behind.items ++ input)) r.fault)) }
+        (λ input. RefusesBytes (front_and front.format front.is_summed front.replica (behind.items ++ input)) r.fault)) }
     ensures at { IfErr result (λ r. IfSome (R.remaining reader.old.inner)
-        (λ input. AreWhole (first_and first.format first.replica (behind.items ++ input)) r.at)) }
+        (λ input. AreWhole (front_and front.format front.is_summed front.replica (behind.items ++ input)) r.at)) }
     ensures fault { IfErr result (λ r. (r.fault ≡ Device) ⊎ IsOtherFault r.fault) }
     ensures counted { IfErr result (λ r. r.fault ≡ Device → HasFailed reader.old reader.new) }
     ensures steady { MatchResult result (λ _. reader.new.failed ≡ reader.old.failed)
@@ -186,11 +284,12 @@ fn read_behind<S: DotSet, R: Read>(
     ensures turns { reader.new.turns ≡ reader.old.turns }
     ensures renamed { reader.new.renamed ≡ reader.old.renamed }
 {
-    let First {
+    let Front {
         format,
         replica,
         length,
-    } = first;
+        is_summed: _is_summed,
+    } = front;
     let snapshot = length as u64;
     let mut replay = Replay::of(replica, snapshot);
     match replay.read_records(alloc, reader, behind) {
@@ -202,12 +301,13 @@ fn read_behind<S: DotSet, R: Read>(
     }
 }
 
-/// Reads all that the reader holds: a snapshot in either format, the records of changes behind it, and a torn end. Of all
-/// that it holds no more than the replica, a part of the snapshot or some records, and in format 2 the table of its keys.
+/// Reads all that the reader holds: a snapshot in either format, the record of its checksum where it has one, the records
+/// of changes behind them, and a torn end. Of all that it holds no more than the replica, a part of the snapshot or some
+/// records, and in format 2 the table of its keys.
 ///
 /// Refuses `Cut` where the bytes end inside of the snapshot, `TooLong` where that is above the limit, and `Bad` where they
 /// are no file, as soon as that is known: of those whose first four bytes are those of no format no more than these
-/// are read. A read that fails, and more reads than the reader's bound of turns, are `Device`.
+/// are read. A snapshot whose bytes have another checksum than the one that stands behind it is no file. A read that fails, and more reads than the reader's bound of turns, are `Device`.
 pub fn read_stored<S: DotSet, R: Read>(
     alloc: Global,
     reader: &mut Counted<R>,
@@ -228,8 +328,8 @@ pub fn read_stored<S: DotSet, R: Read>(
     ensures turns { reader.new.turns ≡ reader.old.turns }
     ensures renamed { reader.new.renamed ≡ reader.old.renamed }
 {
-    match read_first(alloc, reader) {
-        Ok((first, behind)) => read_behind(alloc, reader, first, behind),
+    match read_front(alloc, reader) {
+        Ok((front, behind)) => read_behind(alloc, reader, front, behind),
         Err(fault) => Err(Refused { fault, at: 0 }),
     }
 }
@@ -237,7 +337,7 @@ pub fn read_stored<S: DotSet, R: Read>(
 // The snapshot that bytes begin with, and those behind it.
 fn decode_first<S: DotSet>(alloc: Global, bytes: &[u8]) -> Result<(First<S>, &[u8]), Fault>
     ensures parts { IfOk result (λ x. bytes.now ≡ first_and x.0.format x.0.replica x.1.now) }
-    ensures first { IfOk result (λ x. IsFirst x.0.format x.0.replica x.0.length) }
+    ensures first { IfOk result (λ x. IsFirst x.0.format x.0.replica x.0.length x.0.sum) }
     ensures refused { IfErr result (RefusesBytes bytes.now) }
     ensures fault { IfErr result IsOtherFault }
 {
@@ -245,28 +345,45 @@ fn decode_first<S: DotSet>(alloc: Global, bytes: &[u8]) -> Result<(First<S>, &[u
     let (value, rest) = decode_leading(alloc, unfinished_snapshot::<S>(), bytes)?;
     let (format, replica) = value;
     let size = bytes.len().saturating_sub(rest.len());
-    let first = first_of(format, replica, size, rest)?;
+    let sum = Sha256::digest(&bytes[..size]);
+    let first = first_of(format, replica, size, sum, rest)?;
     Ok((first, rest))
 }
 
-// The records behind a snapshot.
+// The same, and the record of its checksum where it has one.
+fn decode_front<S: DotSet>(alloc: Global, bytes: &[u8]) -> Result<(Front<S>, &[u8]), Fault>
+    ensures parts { IfOk result (λ x. bytes.now ≡ front_and x.0.format x.0.is_summed x.0.replica x.1.now) }
+    ensures front { IfOk result (λ x. IsFront x.0.format x.0.is_summed x.0.replica x.0.length) }
+    ensures alone { IfOk result (λ x. IsAllOf x.0.format x.0.is_summed x.0.replica x.1.now) }
+    ensures refused { IfErr result (RefusesBytes bytes.now) }
+    ensures fault { IfErr result IsOtherFault }
+{
+    let (first, behind) = decode_first(alloc, bytes)?;
+    take_sum(first, behind)
+}
+
+// The records behind a front.
 fn decode_behind<S: DotSet>(
     alloc: Global,
-    first: First<S>,
+    front: Front<S>,
     behind: &[u8],
 ) -> Result<Stored<S>, Refused>
-    requires first { IsFirst first.format first.replica first.length }
-    ensures stored { IfOk result (λ s. IsStored (first_and first.format first.replica behind.now) s.kept s.layout) }
+    requires front { IsFront front.format front.is_summed front.replica front.length }
+    requires alone { IsAllOf front.format front.is_summed front.replica behind.now }
+    ensures stored { IfOk result (λ s. IsStored (front_and front.format front.is_summed front.replica behind.now)
+        s.kept s.layout) }
     ensures value { IfOk result (λ s. IsSnapshot s.kept) }
-    ensures refused { IfErr result (λ r. RefusesBytes (first_and first.format first.replica behind.now) r.fault) }
-    ensures at { IfErr result (λ r. AreWhole (first_and first.format first.replica behind.now) r.at) }
+    ensures refused { IfErr result (λ r. RefusesBytes
+        (front_and front.format front.is_summed front.replica behind.now) r.fault) }
+    ensures at { IfErr result (λ r. AreWhole (front_and front.format front.is_summed front.replica behind.now) r.at) }
     ensures fault { IfErr result (λ r. IsOtherFault r.fault) }
 {
-    let First {
+    let Front {
         format,
         replica,
         length,
-    } = first;
+        is_summed: _is_summed,
+    } = front;
     let snapshot = length as u64;
     let mut replay = Replay::of(replica, snapshot);
     match replay.take_records(alloc, behind) {
@@ -286,8 +403,8 @@ pub fn decode_stored<S: DotSet>(alloc: Global, bytes: &[u8]) -> Result<Stored<S>
     ensures at { IfErr result (λ r. AreWhole bytes.now r.at) }
     ensures fault { IfErr result (λ r. IsOtherFault r.fault) }
 {
-    match decode_first(alloc, bytes) {
-        Ok((first, behind)) => decode_behind(alloc, first, behind),
+    match decode_front(alloc, bytes) {
+        Ok((front, behind)) => decode_behind(alloc, front, behind),
         Err(fault) => Err(Refused { fault, at: 0 }),
     }
 }

@@ -1,0 +1,60 @@
+//! The record behind a snapshot that has the checksum of its bytes.
+ghost use Rattle.std.specs.Prelude.{◌≡◌, ◌<◌, ◌≤◌, ◌+◌, ◌⊎◌, ◌++◌, List, [], ℕ, length, IfOk, IfErr, IfSome, IsNone, OnOk};
+ghost use Rattle.rds_names.specs.declared.fault.Fault.TheVariants.{Memory, TooLong, Bad};
+ghost use Rattle.rds_codec.specs.StateTexts.{snapshot_text};
+ghost use Rattle.rds_codec.specs.declared.limits.TheConstants.{LIMIT};
+ghost use Rattle.rds_journal.specs.Records.{record_text};
+ghost use Rattle.rds_journal.specs.declared.records.TheConstants.{MOST, HEAD};
+ghost use Rattle.rds_keep.specs.Kept.{IsKept};
+ghost use Rattle.rds_keep.specs.Sums.{HasNoSum, HasOtherSum, file_text, sum_payload};
+
+use crate::snapshots::text_can_be_kept;
+use rds_codec::encode_snapshot;
+use rds_dots::DotSet;
+use rds_journal::{first_record, put_record};
+use rds_names::Fault;
+use rds_state::Replica;
+use sha2::{Digest, Sha256};
+use std::alloc::Global;
+
+/// The first byte of the payload of such a record.
+const SUM: u8 = 3;
+
+/// The bytes of such a record.
+pub const SUM_LENGTH: usize = 69;
+
+/// The bytes of a new file that holds the replica: its snapshot, and the record of its checksum.
+///
+/// Refuses `TooLong` where the snapshot is above the limit, which to find takes memory.
+pub fn encode_file<S: DotSet>(alloc: Global, replica: &Replica<S>) -> Result<Vec<u8>, Fault>
+    ensures text { IfOk result (λ bytes. bytes.items ≡ file_text replica.now) }
+    ensures kept { OnOk result (IsKept replica.now) }
+    ensures limit { OnOk result (length (snapshot_text replica.now) ≤ LIMIT) }
+    ensures fault { IfErr result (λ e. (e ≡ Memory) ⊎ ((e ≡ TooLong) × (LIMIT < length (snapshot_text replica.now)))) }
+{
+    let mut bytes = encode_snapshot(alloc, replica)?;
+    text_can_be_kept(replica, bytes.as_slice());
+    let mut payload = Vec::with_capacity(alloc, 33)?;
+    payload.push(SUM)?;
+    payload.extend_from_slice(&Sha256::digest(bytes.as_slice()))?;
+    put_record(&mut bytes, &payload)?;
+    Ok(bytes)
+}
+
+/// What stands behind the record of this checksum, where it stands first. Refuses `Bad` where that of another does.
+pub fn behind_sum<'a>(sum: &[u8; 32], bytes: &'a [u8]) -> Result<Option<&'a [u8]>, Fault>
+    ensures some { IfOk result (λ found. IfSome found
+        (λ rest. bytes.now ≡ record_text (sum_payload sum.now) ++ rest.now)) }
+    ensures none { IfOk result (λ found. IsNone found → (more : List ℕ)
+        → (length bytes.now ≤ MOST + HEAD → more ≡ []) → HasNoSum sum.now (bytes.now ++ more)) }
+    ensures other { IfErr result (λ e. (e ≡ Bad) × HasOtherSum sum.now bytes.now) }
+{
+    let Some((payload, rest)) = first_record(bytes) else {
+        return Ok(None);
+    };
+    match payload.split_first() {
+        Some((&SUM, told)) if told == sum.as_slice() => Ok(Some(rest)),
+        Some((&SUM, _)) => Err(Fault::Bad),
+        _ => Ok(None),
+    }
+}
