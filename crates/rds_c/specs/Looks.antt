@@ -1,6 +1,6 @@
 -- The texts that calls tell of a replica.
 use Rattle.std.specs.Prelude.{◌≡◌, ℕ, List, Ok}
-use Rattle.rds_codec.specs.StateTexts.{snapshot_text}
+use Rattle.rds_keep.specs.Sums.{file_text}
 use Rattle.rds_lines.specs.Overview.{IsOverview}
 use Rattle.rds_listing.specs.Conflicts.{conflicts_text}
 use Rattle.rds_listing.specs.Dump.{dump_text}
@@ -22,7 +22,7 @@ IsTextAt Dump path v text = told_at dump_text v.state path ≡ Ok text
 
 -- of all of it
 abbrev pub IsTextOf : Whole → ReplicaValue → List ℕ → Type 0
-IsTextOf Snapshot v text = text ≡ snapshot_text v
+IsTextOf Snapshot v text = text ≡ file_text v
 IsTextOf Status v text = IsOverview v text
 IsTextOf Mark v text = text ≡ mark_text (mark_of v.state)
 IsTextOf Question v text = text ≡ question_text (question_of v)

@@ -10,8 +10,7 @@ use Rattle.http_header.specs.HeaderMap.{Entries}
 use Rattle.http_server.specs.declared.response.Response.{Response}
 use Rattle.http_server.specs.Response.{IsResponse}
 use Rattle.percent_encoding.specs.Percent.{percent_decode}
-use Rattle.rds_codec.specs.FormatWriting.{EncodesTabled}
-use Rattle.rds_codec.specs.StateTexts.{snapshot_text}
+use Rattle.rds_keep.specs.Sums.{EncodesFile}
 use Rattle.rds_lines.specs.Overview.{IsOverview}
 use Rattle.rds_listing.specs.Conflicts.{conflicts_text}
 use Rattle.rds_names.specs.AndThen.{◌>>=◌}
@@ -113,12 +112,12 @@ ShowsQuestion headers document response =
     × TellsQuestion (is_known headers (tag_text tag)) (tag_text tag) document response)
     ⊎ ((fault : Fault) × (MayAsk document (Err fault) ⊎ RefusesTag document fault) × TellsFault fault response)
 
--- the document's snapshot is told, or why it has none
+-- a new file of the document is told, or why it has none
 abbrev pub ShowsSnapshot : ReplicaValue → Response → Type 0
 ShowsSnapshot document response =
-    ((bytes : Vec ℕ) × EncodesTabled (snapshot_text document) (Ok bytes)
+    ((bytes : Vec ℕ) × EncodesFile document (Ok bytes)
     × Tells 200 (codes "application/octet-stream") bytes.items response)
-    ⊎ ((fault : Fault) × EncodesTabled (snapshot_text document) (Err fault) × TellsFault fault response)
+    ⊎ ((fault : Fault) × EncodesFile document (Err fault) × TellsFault fault response)
 
 -- the fields of the page
 abbrev pub page_fields : List Header

@@ -7,6 +7,7 @@ use Rattle.rds_state.specs.Fits.{ReplicaValue}
 use Rattle.rds_codec.specs.FormatTexts.{snapshot_in_at, snapshot_text_in}
 use Rattle.rds_codec.specs.StateTexts.{IsSnapshot}
 use Rattle.rds_codec.specs.declared.formats.Format.{Format}
+use Rattle.rds_codec.specs.declared.formats.Format.TheVariants.{Two}
 use Rattle.rds_codec.specs.declared.limits.TheConstants.{LIMIT}
 use Rattle.rds_journal.specs.Records.{IsPayload, IsTorn, journal_text}
 use Rattle.rds_keep.specs.Changes.{ChangeValue, IsRedone, change_text}
@@ -44,6 +45,10 @@ pub record IsStored (bytes : List ℕ) (v : ReplicaValue) (layout : Layout) : Ty
   pub end : IsTorn torn
   pub size : layout.whole ≡ length whole
   pub all : layout.length ≡ length bytes
+
+-- where the parts of a new file of so many bytes stand
+abbrev pub new_layout : ℕ → Layout
+new_layout count = record { format = Two; snapshot = count; whole = count; length = count }
 
 -- there are bytes that hold it
 pub record IsKept (v : ReplicaValue) : Type 0 where

@@ -1,5 +1,10 @@
 -- The record behind a snapshot that has the checksum of its bytes.
-use Rattle.std.specs.Prelude.{◌≡◌, ℕ, Bool, true, false, List, [], ◌∷◌, ◌++◌}
+use Rattle.std.specs.Prelude.{◌≡◌, ◌<◌, ◌≤◌, ◌⊎◌, ℕ, Bool, true, false, List, [], ◌∷◌, ◌++◌, length, Result, Ok, Err}
+use Rattle.std.specs.Global.{Vec}
+use Rattle.rds_names.specs.declared.fault.Fault.{Fault}
+use Rattle.rds_names.specs.declared.fault.Fault.TheVariants.{Memory, TooLong}
+use Rattle.rds_codec.specs.StateTexts.{snapshot_text}
+use Rattle.rds_codec.specs.declared.limits.TheConstants.{LIMIT}
 use Rattle.sha2.specs.Sha256.{sha256}
 use Rattle.rds_state.specs.Fits.{ReplicaValue}
 use Rattle.rds_codec.specs.FormatTexts.{snapshot_text_in}
@@ -23,6 +28,11 @@ summed_text format is_summed v = snapshot_text_in format v ++ sum_text is_summed
 -- the bytes of a new file: a snapshot in format 2, and the record of its checksum
 abbrev pub file_text : ReplicaValue → List ℕ
 file_text v = summed_text Two true v
+
+-- the bytes of a new file; or memory ran out, or its snapshot is above the limit
+abbrev pub EncodesFile : ReplicaValue → Result (Vec ℕ) Fault → Type 0
+EncodesFile v (Ok bytes) = (bytes.items ≡ file_text v) × (length (snapshot_text v) ≤ LIMIT)
+EncodesFile v (Err e) = (e ≡ Memory) ⊎ ((e ≡ TooLong) × (LIMIT < length (snapshot_text v)))
 
 -- ---- what is read behind a snapshot
 

@@ -1,14 +1,11 @@
 //! The record behind a snapshot that has the checksum of its bytes.
-ghost use Rattle.std.specs.Prelude.{◌≡◌, ◌<◌, ◌≤◌, ◌+◌, ◌⊎◌, ◌++◌, List, [], ℕ, length, IfOk, IfErr, IfSome, IsNone, OnOk};
-ghost use Rattle.rds_names.specs.declared.fault.Fault.TheVariants.{Memory, TooLong, Bad};
-ghost use Rattle.rds_codec.specs.StateTexts.{snapshot_text};
-ghost use Rattle.rds_codec.specs.declared.limits.TheConstants.{LIMIT};
+ghost use Rattle.std.specs.Prelude.{◌≡◌, ◌≤◌, ◌+◌, ◌++◌, List, [], ℕ, length, IfOk, IfErr, IfSome, IsNone};
+ghost use Rattle.rds_names.specs.declared.fault.Fault.TheVariants.{Bad};
 ghost use Rattle.rds_journal.specs.Records.{record_text};
 ghost use Rattle.rds_journal.specs.declared.records.TheConstants.{MOST, HEAD};
-ghost use Rattle.rds_keep.specs.Kept.{IsKept};
-ghost use Rattle.rds_keep.specs.Sums.{HasNoSum, HasOtherSum, file_text, sum_payload};
+ghost use Rattle.rds_keep.specs.Kept.{IsStored, new_layout};
+ghost use Rattle.rds_keep.specs.Sums.{EncodesFile, HasNoSum, HasOtherSum, sum_payload};
 
-use crate::snapshots::text_can_be_kept;
 use rds_codec::encode_snapshot;
 use rds_dots::DotSet;
 use rds_journal::{first_record, put_record};
@@ -27,13 +24,10 @@ pub const SUM_LENGTH: usize = 69;
 ///
 /// Refuses `TooLong` where the snapshot is above the limit, which to find takes memory.
 pub fn encode_file<S: DotSet>(alloc: Global, replica: &Replica<S>) -> Result<Vec<u8>, Fault>
-    ensures text { IfOk result (λ bytes. bytes.items ≡ file_text replica.now) }
-    ensures kept { OnOk result (IsKept replica.now) }
-    ensures limit { OnOk result (length (snapshot_text replica.now) ≤ LIMIT) }
-    ensures fault { IfErr result (λ e. (e ≡ Memory) ⊎ ((e ≡ TooLong) × (LIMIT < length (snapshot_text replica.now)))) }
+    ensures file { EncodesFile replica.now result }
+    ensures stored { IfOk result (λ bytes. IsStored bytes.items replica.now (new_layout (length bytes.items))) }
 {
     let mut bytes = encode_snapshot(alloc, replica)?;
-    text_can_be_kept(replica, bytes.as_slice());
     let mut payload = Vec::with_capacity(alloc, 33)?;
     payload.push(SUM)?;
     payload.extend_from_slice(&Sha256::digest(bytes.as_slice()))?;

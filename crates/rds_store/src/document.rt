@@ -2,14 +2,10 @@
 ghost use Rattle.std.specs.Prelude.{◌≡◌, ◌∷◌, [], false, length, max, Ok, Err, IfOk, IfErr, MatchResult, OnErr, OnOk};
 ghost use Rattle.std.specs.Prelude.{◌⊎◌, map};
 ghost use Rattle.std.specs.Result.{result_map_both};
-ghost use Rattle.rds_codec.specs.Decoding.{all_of};
-ghost use Rattle.rds_codec.specs.FormatTexts.{snapshot_in_at};
-ghost use Rattle.rds_codec.specs.FormatWriting.{EncodesTabled};
-ghost use Rattle.rds_codec.specs.StateTexts.{snapshot_text};
-ghost use Rattle.rds_codec.specs.declared.formats.Format.TheVariants.{Two};
 ghost use Rattle.rds_json.specs.MayGive.{MayGive};
 ghost use Rattle.rds_json.specs.Unnamed.{edit_of};
 ghost use Rattle.rds_keep.specs.Kept.{IsStored, RefusesBytes};
+ghost use Rattle.rds_keep.specs.Sums.{EncodesFile};
 ghost use Rattle.rds_names.specs.declared.fault.Fault.TheVariants.{Memory};
 ghost use Rattle.rds_state.specs.Fits.{Fits};
 ghost use Rattle.rds_state.specs.Results.{EditsReplica, TakesDeltaWith};
@@ -17,10 +13,9 @@ ghost use Rattle.rds_state.specs.Value.{coordinates};
 ghost use Rattle.rds_store.specs.Documents.{IsGrownBy, IsHeldBy, RefusesGrowth, first_of, named_roster, names_in};
 ghost use Rattle.rds_tree.specs.EditsWithDelta.{EditsWithDelta};
 
-use rds_codec::encode_snapshot;
 use rds_gaps::GapSet;
 use rds_json::LineReader;
-use rds_keep::{Layout, Stored, decode_stored};
+use rds_keep::{Layout, Stored, decode_stored, encode_file};
 use rds_names::{Fault, Key, Name, Roster};
 use rds_state::{Command, Edited, Replica, State};
 use rds_tree::Index;
@@ -128,13 +123,13 @@ impl Document {
         index.into_replica()
     }
 
-    /// The snapshot, which is what is kept. Above the limit it is refused (`TooLong`). All of it, read again, is this
-    /// very replica.
+    /// The bytes of a new file: the snapshot, and the record of its checksum. A snapshot above the limit is refused
+    /// (`TooLong`). A file of these bytes holds this very replica.
     pub fn snapshot(&self) -> Result<Vec<u8>, Fault>
-        ensures text { EncodesTabled (snapshot_text self.now) result }
-        ensures again { IfOk result (λ bytes. all_of snapshot_in_at bytes.items ≡ Ok (Two, self.now)) }
+        ensures file { EncodesFile self.now result }
+        ensures held { IfOk result (λ bytes. IsHeldBy bytes.items self.now) }
     {
-        encode_snapshot(self.alloc, self.index.replica())
+        encode_file(self.alloc, self.index.replica())
     }
 
     /// Puts a name last in the roster. A text that is no name is refused (`BadName`), and a name that is there already,
