@@ -4,7 +4,6 @@ use Rattle.std.specs.Prelude.{IfSome, is_some, option_map}
 use Rattle.std.proofs.lemmas.List.{length-append, take_at}
 use Rattle.rds_names.specs.Roster.{RosterValue, Begins}
 use Rattle.rds_bytes.specs.Values.{IsMember}
-use Rattle.rds_codec.specs.FormatTexts.{snapshot_text_in}
 use Rattle.rds_codec.specs.StateTexts.{IsStateOf}
 use Rattle.rds_codec.specs.declared.formats.Format.{Format}
 use Rattle.rds_dots.specs.declared.dot.Dot.{Dot}
@@ -17,6 +16,7 @@ use Rattle.rds_journal.specs.Records.{IsPayload, record_text}
 use Rattle.rds_keep.specs.Changed.{ChangedValue, IsRecordOf, IsSeen, with_record}
 use Rattle.rds_keep.specs.Changes.{ChangeValue, IsChanged, IsRedone, change_text}
 use Rattle.rds_keep.specs.Kept.{IsFile, IsKept, IsStored, records_text}
+use Rattle.rds_keep.specs.Sums.{summed_text}
 use Rattle.rds_keep.specs.declared.layout.Layout.{Layout}
 use Rattle.rds_keep.proofs.Chains.{made_more, own_stays, records_more}
 use Rattle.rds_keep.proofs.Files.{nothing_torn}
@@ -60,10 +60,11 @@ file_more bytes format count c file is =
     let text : record_text (change_text file.first.own is.change) ≡ c.bytes = ap (λ (n : ℕ). record_text (change_text n is.change)) (sym own) ∙ sym is.bytes in
     record {
       first = file.first;
+      is_summed = file.is_summed;
       changes = file.changes ++ is.change ∷ [];
-      parts = ap (λ (t : List ℕ). t ++ c.bytes) file.parts ∙ append_assoc (snapshot_text_in format file.first) (records_text file.first.own file.changes) c.bytes
-          ∙ ap (λ (t : List ℕ). snapshot_text_in format file.first ++ (records_text file.first.own file.changes ++ t)) (sym text)
-          ∙ ap (λ (t : List ℕ). snapshot_text_in format file.first ++ t) (sym (records_more file.first.own file.changes is.change));
+      parts = ap (λ (t : List ℕ). t ++ c.bytes) file.parts ∙ append_assoc (summed_text format file.is_summed file.first) (records_text file.first.own file.changes) c.bytes
+          ∙ ap (λ (t : List ℕ). summed_text format file.is_summed file.first ++ (records_text file.first.own file.changes ++ t)) (sym text)
+          ∙ ap (λ (t : List ℕ). summed_text format file.is_summed file.first ++ t) (sym (records_more file.first.own file.changes is.change));
       value = file.value;
       within = file.within;
       made = made_more file.first file.changes c.before is.change c.after file.made is.redone is.payload;

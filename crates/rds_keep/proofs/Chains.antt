@@ -66,13 +66,13 @@ records_more own changes c =
     ∙ journal_more (map (change_text own) changes) (change_text own c ∷ [])
     ∙ ap (λ (t : List ℕ). records_text own changes ++ t) (append-nil (record_text (change_text own c)))
 
-first_record_of : (own : ℕ) (c : ChangeValue) (changes : List ChangeValue) (torn : List ℕ) → records_text own (c ∷ changes) ++ torn ≡ record_text (change_text own c) ++ (records_text own changes ++ torn)
+pub first_record_of : (own : ℕ) (c : ChangeValue) (changes : List ChangeValue) (torn : List ℕ) → records_text own (c ∷ changes) ++ torn ≡ record_text (change_text own c) ++ (records_text own changes ++ torn)
 first_record_of own c changes torn = append_assoc (record_text (change_text own c)) (records_text own changes) torn
 
 -- ---- how bytes end
 
 -- a record at the front of a torn end: there is none
-not_torn : (torn payload behind : List ℕ) → IsTorn torn → IsPayload payload → record_text payload ++ behind ≡ torn → ⊥
+pub not_torn : (torn payload behind : List ℕ) → IsTorn torn → IsPayload payload → record_text payload ++ behind ≡ torn → ⊥
 not_torn torn payload behind end short same = end.none 0 (payload, behind, short, sym same)
 
 -- they end as the first record's change and what is behind it

@@ -1,9 +1,11 @@
 -- The snapshot at the front of a file: how it is read, and why not.
-use Rattle.std.proofs.Common.{◌≡◌, ℕ, ◌+◌, ◌-◌, ◌<◌, ◌≤◌, ◌⊎◌, inl, inr, List, [], ◌++◌, length, Option, Some, None, Result, Ok, sym, ap, ◌∙◌, subst, arith, append_assoc, append-nil}
+use Rattle.std.proofs.Common.{◌≡◌, ℕ, ◌+◌, ◌-◌, ◌<◌, ◌≤◌, ◌⊎◌, inl, inr, Bool, List, [], ◌++◌, length, take, drop, Option, Some, None, Result, Ok, Err, refl, sym, ap, ◌∙◌, subst, arith, append_assoc, append-nil, take-append-drop}
 use Rattle.std.specs.Prelude.{IfSome}
 use Rattle.std.specs.Io.KnownBytes.{Consumes}
 use Rattle.std.proofs.KnownBytes.{Consumes-trans}
-use Rattle.std.proofs.lemmas.List.{length-append}
+use Rattle.std.proofs.lemmas.Bool.{cases_lt}
+use Rattle.std.proofs.lemmas.List.{length-append, length-take, take-append-le, take_at}
+use Rattle.sha2.specs.declared.Sha256.{Sha256}
 use Rattle.rds_names.specs.declared.fault.Fault.{Fault}
 use Rattle.rds_names.specs.declared.fault.Fault.TheVariants.{Memory, Cut, Bad, TooLong, Device}
 use Rattle.rds_bytes.specs.Reading.{Reader}
@@ -20,8 +22,9 @@ use Rattle.rds_keep.specs.Leading.{Leads, RefusesFront}
 use Rattle.rds_keep.specs.Parts.{ConsumesAtMost}
 use Rattle.rds_keep.specs.Replay.{HoldsMore}
 use Rattle.rds_keep.specs.Snapshots.{IsForeign, IsMagic, IsShort}
-use Rattle.rds_keep.specs.Stored.{LosesFirst, first_and}
-use Rattle.rds_keep.proofs.Files.{front_is, none_stored}
+use Rattle.rds_keep.specs.Stored.{LosesFirst, LosesFront, first_and, front_and}
+use Rattle.rds_keep.specs.Sums.{sum_text, summed_text}
+use Rattle.rds_keep.proofs.Files.{front_is, none_stored, read_again}
 use Rattle.rds_keep.proofs.Foreign.{front_bad, front_cut, no_text}
 use Rattle.rds_keep.proofs.Fronts.{magic_is_four}
 
@@ -70,18 +73,33 @@ long_refuses (Some xs) (Some ys) given count e consumed size (inr long) = rw (lo
 abbrev read_as : Snapshot → List ℕ → Result (Snapshot × List ℕ) Fault
 read_as s rest = Ok (s, rest)
 
+-- a list that begins with another
+front_of : (xs ys as bs : List ℕ) → xs ++ ys ≡ as ++ bs → length as ≤ length xs → xs ≡ as ++ drop (length as) xs
+front_of xs ys as bs e le =
+    let front : take (length as) xs ≡ as = sym (take-append-le (length as) xs ys le) ∙ ap (take (length as)) e ∙ take_at as bs (length as) refl in
+    sym (take-append-drop (length as) xs) ∙ ap (λ (t : List ℕ). t ++ drop (length as) xs) front
+
+-- one that goes on
+split_at : (xs ys as bs : List ℕ) → xs ++ ys ≡ as ++ bs → length xs ≤ length as → xs ++ take (length ys - length bs) ys ≡ as
+split_at xs ys as bs e le =
+    let k = length ys - length bs in
+    let lengths : length xs + length ys ≡ length as + length bs = sym (length-append xs ys) ∙ ap length e ∙ length-append as bs in
+    let size : length (xs ++ take k ys) ≡ length as = omega (arith, lengths, le, length-append xs (take k ys), length-take k ys) in
+    let parts : (xs ++ take k ys) ++ drop k ys ≡ as ++ bs = append_assoc xs (take k ys) (drop k ys) ∙ ap (λ (t : List ℕ). xs ++ t) (take-append-drop k ys) ∙ e in
+    sym (take_at (xs ++ take k ys) (drop k ys) (length as) size) ∙ ap (take (length as)) parts ∙ take_at as bs (length as) refl
+
 -- what was read up to it, and the bytes behind it
-pub leading_is : (read : Reader Snapshot) (front : List ℕ) (before after : Option (List ℕ)) (s : Snapshot) (count : ℕ) (behind : List ℕ) → ((bytes : List ℕ) → read bytes ≡ snapshot_in_at bytes)
-    → (leads : Leads read front before after s count behind) → (front ++ leads.given ≡ first_and s.0 s.1 behind) × IsSnapshot s.1
-leading_is read front before after s count behind same leads =
+pub leading_is : (read : Reader Snapshot) (front : List ℕ) (before after : Option (List ℕ)) (s : Snapshot) (count : ℕ) (behind : List ℕ) (hasher : Sha256) (last : List ℕ) → ((bytes : List ℕ) → read bytes ≡ snapshot_in_at bytes)
+    → (leads : Leads read front before after s count behind hasher last) → (front ++ leads.given ≡ first_and s.0 s.1 behind) × IsSnapshot s.1
+leading_is read front before after s count behind hasher last same leads =
     let whole = leads.whole [] in
     let found : snapshot_in_at (front ++ leads.given) ≡ Ok (s, behind) =
     sym (same (front ++ leads.given)) ∙ ap (λ (t : List ℕ). read (front ++ t)) (sym (append-nil leads.given)) ∙ whole ∙ ap (read_as s) (append-nil behind) in
     front_is (front ++ leads.given) behind s leads.bytes found
 
 -- and more behind it
-module _ (read : Reader Snapshot) (same : (bytes : List ℕ) → read bytes ≡ snapshot_in_at bytes) (front : List ℕ) (first mid now last : Option (List ℕ)) (s : Snapshot) (count : ℕ) (behind held : List ℕ)
-    (consumed : Consumes first mid front) (leads : Leads read front mid now s count behind) (more : HoldsMore now last behind held) where
+module _ (read : Reader Snapshot) (same : (bytes : List ℕ) → read bytes ≡ snapshot_in_at bytes) (front : List ℕ) (first mid now last : Option (List ℕ)) (s : Snapshot) (count : ℕ) (behind : List ℕ) (hasher : Sha256) (latest held : List ℕ)
+    (consumed : Consumes first mid front) (leads : Leads read front mid now s count behind hasher latest) (more : HoldsMore now last behind held) where
   abbrev pub all_given : List ℕ
   all_given = front ++ (leads.given ++ more.given)
 
@@ -90,7 +108,7 @@ module _ (read : Reader Snapshot) (same : (bytes : List ℕ) → read bytes ≡ 
 
   all_parts : all_given ≡ first_and s.0 s.1 held
   all_parts =
-      let is = leading_is read front mid now s count behind same leads in
+      let is = leading_is read front mid now s count behind hasher latest same leads in
       sym (append_assoc front leads.given more.given) ∙ ap (λ (t : List ℕ). t ++ more.given) is.0 ∙ append_assoc (snapshot_text_in s.0 s.1) behind more.given ∙ ap (λ (t : List ℕ). snapshot_text_in s.0 s.1 ++ t) (sym more.held)
 
   pub loses_first : LosesFirst first last s.0 s.1 held
@@ -98,11 +116,35 @@ module _ (read : Reader Snapshot) (same : (bytes : List ℕ) → read bytes ≡ 
 
   pub text_size : count ≡ length (snapshot_text_in s.0 s.1) + length behind
   text_size =
-      let is = leading_is read front mid now s count behind same leads in
+      let is = leading_is read front mid now s count behind hasher latest same leads in
       omega (arith, leads.size, ap length (is.0), length-append front leads.given, length-append (snapshot_text_in s.0 s.1) behind)
 
   pub first_value : IsSnapshot s.1
-  first_value = (leading_is read front mid now s count behind same leads).1
+  first_value = (leading_is read front mid now s count behind hasher latest same leads).1
+
+  -- the hash of the snapshot, where that is within the limit
+  pub text_hashed : length (snapshot_text_in s.0 s.1) ≤ LIMIT → leads.hashed ++ take (length latest - length behind) latest ≡ snapshot_text_in s.0 s.1
+  text_hashed within = split_at leads.hashed latest text behind whole fewer
+    where
+      text : List ℕ
+      text = snapshot_text_in s.0 s.1
+
+      whole : leads.hashed ++ latest ≡ text ++ behind
+      whole = sym leads.parts ∙ (leading_is read front mid now s count behind hasher latest same leads).0
+
+      fewer : length leads.hashed ≤ length text
+      fewer = elim leads.short [
+        | inl none ↦ omega (arith, ap length none)
+        | inr cut ↦ elim (cases_lt (length text) (length leads.hashed)) [
+          | inl long ↦ absurd (not_cut (sym (same leads.hashed) ∙ cut) (front_of leads.hashed latest text behind whole (omega (arith, long))))
+          | inr short ↦ short
+        ]
+      ]
+
+      not_cut : snapshot_in_at leads.hashed ≡ Err Cut → leads.hashed ≡ text ++ drop (length text) leads.hashed → ⊥
+      not_cut cut is =
+          let found = ap snapshot_in_at is ∙ read_again s.0 s.1 (drop (length text) leads.hashed) first_value within in
+          absurd (let both : ◌≡◌ {A = Result (Snapshot × List ℕ) Fault} (Err Cut) (Ok ((s.0, s.1), drop (length text) leads.hashed)) = sym cut ∙ found in cc)
 
   pub too_long_refuses : (size : ℕ) (e : Fault) → size ≡ length (snapshot_text_in s.0 s.1) → (e ≡ Memory) ⊎ ((e ≡ TooLong) × (LIMIT < size)) → IfSome first (λ input. RefusesBytes input e)
   too_long_refuses size e is why =
@@ -118,6 +160,31 @@ module _ (read : Reader Snapshot) (same : (bytes : List ℕ) → read bytes ≡ 
   )
 
 -- ---- what is behind it
+
+-- a front is a snapshot, and its checksum is behind it
+front_parts : (format : Format) (b : Bool) (v : ReplicaValue) (behind : List ℕ) → front_and format b v behind ≡ first_and format v (sum_text b (snapshot_text_in format v) ++ behind)
+front_parts format b v behind = append_assoc (snapshot_text_in format v) (sum_text b (snapshot_text_in format v)) behind
+
+-- what was taken of what is behind the snapshot
+pub loses_front : (first mid : Option (List ℕ)) (format : Format) (v : ReplicaValue) (held : List ℕ) (other : Format) (b : Bool) (w : ReplicaValue) (behind : List ℕ) → LosesFirst first mid format v held
+    → first_and format v held ≡ front_and other b w behind → LosesFront first mid other b w behind
+loses_front first mid format v held other b w behind loses same = record { given = loses.given; consumed = loses.consumed; parts = loses.parts ∙ same }
+
+-- what holds of the front and all behind it holds of the input
+pub lost_front : (P : List ℕ → Type 0) (first mid : Option (List ℕ)) (format : Format) (b : Bool) (v : ReplicaValue) (behind : List ℕ) → LosesFront first mid format b v behind → IfSome mid (λ input. P (front_and format b v (behind ++ input)))
+    → IfSome first P
+lost_front P None mid format b v behind loses has = tt
+lost_front P (Some xs) None format b v behind loses has = absurd loses.consumed
+lost_front P (Some xs) (Some ys) format b v behind loses has =
+    subst P (sym (loses.consumed ∙ ap (λ (t : List ℕ). t ++ ys) loses.parts ∙ append_assoc (summed_text format b v) behind ys)) has
+
+-- it isn't foreign
+pub front_own : (Q : Type 0) (first mid : Option (List ℕ)) (format : Format) (b : Bool) (v : ReplicaValue) (behind : List ℕ) → LosesFront first mid format b v behind → IfSome first (λ input. IsForeign input → Q)
+front_own Q None mid format b v behind loses = tt
+front_own Q (Some xs) None format b v behind loses = absurd loses.consumed
+front_own Q (Some xs) (Some ys) format b v behind loses = λ foreign.
+    absurd (no_text xs (format, v) (sum_text b (snapshot_text_in format v) ++ (behind ++ ys)) foreign
+    (loses.consumed ∙ ap (λ (t : List ℕ). t ++ ys) loses.parts ∙ append_assoc (summed_text format b v) behind ys ∙ front_parts format b v (behind ++ ys)))
 
 -- what holds of the snapshot and all behind it holds of the input
 pub lost_first : (P : List ℕ → Type 0) (first mid : Option (List ℕ)) (format : Format) (v : ReplicaValue) (behind : List ℕ) → LosesFirst first mid format v behind → IfSome mid (λ input. P (first_and format v (behind ++ input)))

@@ -1,10 +1,12 @@
 -- A value that bytes begin with, which is read as they come.
-use Rattle.std.proofs.Common.{◌≡◌, ℕ, ◌+◌, ◌-◌, ◌<◌, ◌≤◌, inl, inr, List, [], ◌∷◌, ◌++◌, length, Option, Some, None, Ok, Err, refl, sym, ap, ◌∙◌, subst, arith, append_assoc, append-nil}
+use Rattle.std.proofs.Common.{◌≡◌, ℕ, ◌+◌, ◌-◌, ◌<◌, ◌≤◌, ◌⊎◌, inl, inr, List, [], ◌∷◌, ◌++◌, length, drop, Option, Some, None, Ok, Err, refl, sym, ap, ◌∙◌, subst, arith, append_assoc, append-nil}
 use Rattle.std.specs.Prelude.{IfSome}
 use Rattle.std.specs.Io.{StartsWith, appended_bytes}
 use Rattle.std.specs.Io.KnownBytes.{Consumes, IsAtEnd}
 use Rattle.std.proofs.KnownBytes.{Consumes-trans, starts_with_rest}
 use Rattle.std.proofs.lemmas.List.{get_or-drop, length-append}
+use Rattle.sha2.specs.Hashers.{Holds256}
+use Rattle.sha2.specs.declared.Sha256.{Sha256}
 use Rattle.rds_names.specs.declared.fault.Fault.{Fault}
 use Rattle.rds_names.specs.declared.fault.Fault.TheVariants.{Memory, Cut, TooLong, Device}
 use Rattle.rds_bytes.specs.Reading.{Reader}
@@ -19,7 +21,7 @@ use Rattle.rds_keep.specs.Leading.{Leads, RefusesFront, RefusesStep}
 
 module _ {R U V : Type 0} (remaining : R → Option (List ℕ)) (finish : U → Reader V) where
   -- so far more bytes are wanted, of which some are held
-  pub record IsLedSoFar (begun : U) (front : List ℕ) (first now : CountedValue R) (unfinished : U) (held : List ℕ) (count : ℕ) : Type 0 where
+  pub record IsLedSoFar (begun : U) (front : List ℕ) (first now : CountedValue R) (unfinished : U) (held : List ℕ) (count : ℕ) (hasher : Sha256) (last : ℕ) : Type 0 where
     pub given : List ℕ
     pub consumed : Consumes (remaining first.inner) (remaining now.inner) given
     pub same : (more : List ℕ) → finish begun (front ++ (given ++ more)) ≡ finish unfinished (held ++ more)
@@ -30,6 +32,11 @@ module _ {R U V : Type 0} (remaining : R → Option (List ℕ)) (finish : U → 
     pub left : now.left ≤ first.left
     pub turns : now.turns ≡ first.turns
     pub renamed : now.renamed ≡ first.renamed
+    pub hashed : List ℕ
+    pub holds : Holds256 hasher hashed
+    pub parts : front ++ given ≡ hashed ++ drop last held
+    pub within : last ≤ length held
+    pub short : (hashed ≡ []) ⊎ (finish begun hashed ≡ Err Cut)
 
 module _ {U V : Type 0} (finish : U → Reader V) where
   abbrev Led : U → List ℕ → List ℕ → U → List ℕ → Type 0
@@ -59,12 +66,26 @@ module _ {U V : Type 0} (finish : U → Reader V) where
       let later : AreBytes (appended_bytes rest held) = λ i. (rw get_or-drop (bytes (length rest + i))) in
       subst AreBytes (append_assoc front given (appended_bytes rest held)) (bytes-append finish (front ++ given) (appended_bytes rest held) first later)
 
+  -- all that was read is hashed, but for the last bytes
+  pub hashed_on : (front given rest held hashed fresh : List ℕ) → front ++ given ≡ hashed ++ fresh → StartsWith held rest → front ++ (given ++ appended_bytes rest held) ≡ (hashed ++ fresh) ++ drop (length rest) held
+  hashed_on front given rest held hashed fresh parts kept =
+      sym (append_assoc front given (appended_bytes rest held)) ∙ ap (λ (t : List ℕ). t ++ appended_bytes rest held) parts
+
+  -- it isn't whole with those
+  pub hashed_short : (begun u next : U) (front given held rest hashed fresh : List ℕ) (p : Progress U V) → p ≡ More next → Led begun front given u held → ReadsOn finish (λ more. finish u (held ++ more)) p rest → front ++ given ≡ hashed ++ fresh
+      → finish begun (hashed ++ fresh) ≡ Err Cut
+  hashed_short begun u next front given held rest hashed fresh p is led reads parts =
+      let on = led_on begun u next front given held rest p is led reads in
+      ap (finish begun) (sym parts ∙ sym (ap (λ (t : List ℕ). front ++ t) (append-nil given)))
+      ∙ on [] ∙ ap (finish next) (append-nil rest) ∙ led_cut u next held rest p is reads
+
   -- the value is whole
-  pub leads : (begun u : U) (front given held rest : List ℕ) (before after : Option (List ℕ)) (count : ℕ) (p : Progress U V) (v : V) → p ≡ Whole v → Led begun front given u held → Consumes before after given
-      → count ≡ length front + length given → AreBytes (front ++ given) → ReadsOn finish (λ more. finish u (held ++ more)) p rest → Leads (finish begun) front before after v count rest
-  leads begun u front given held rest before after count p v is led consumed size bytes reads =
+  pub leads : (begun u : U) (front given held rest hashed last : List ℕ) (hasher : Sha256) (before after : Option (List ℕ)) (count : ℕ) (p : Progress U V) (v : V) → p ≡ Whole v → Led begun front given u held → Consumes before after given
+      → count ≡ length front + length given → AreBytes (front ++ given) → ReadsOn finish (λ more. finish u (held ++ more)) p rest → Holds256 hasher hashed → front ++ given ≡ hashed ++ last → (hashed ≡ []) ⊎ (finish begun hashed ≡ Err Cut)
+      → Leads (finish begun) front before after v count rest hasher last
+  leads begun u front given held rest hashed last hasher before after count p v is led consumed size bytes reads holds parts short =
       let on : ReadsOn finish (λ more. finish u (held ++ more)) (Whole v) rest = subst (λ (q : Progress U V). ReadsOn finish (λ more. finish u (held ++ more)) q rest) is reads in
-      record { given = given; consumed = consumed; whole = λ more. led more ∙ on more; size = size; bytes = bytes }
+      record { given = given; consumed = consumed; whole = λ more. led more ∙ on more; size = size; bytes = bytes; hashed = hashed; holds = holds; parts = parts; short = short }
 
   -- ---- why there is none
 

@@ -17,5 +17,6 @@ mod ReplaySteps
 mod Replaying
 pub mod Showing
 mod SnapshotsStay
+pub mod SumTexts
 pub mod TextParts
 pub mod WrittenSoFar

@@ -9,6 +9,7 @@ ghost use Rattle.rds_codec.specs.Decoding.{IsOtherFault};
 ghost use Rattle.rds_codec.specs.FormatTexts.{snapshot_text_in};
 ghost use Rattle.rds_codec.specs.StateTexts.{IsSnapshot};
 ghost use Rattle.rds_codec.specs.declared.limits.TheConstants.{LIMIT};
+ghost use Rattle.rds_journal.specs.Records.{IsTorn};
 ghost use Rattle.rds_journal.specs.declared.records.TheConstants.{MOST, HEAD};
 ghost use Rattle.rds_keep.specs.Counted.{HasFailed, most_read};
 ghost use Rattle.rds_keep.specs.Kept.{AreWhole, IsFile, IsStored, RefusesBytes};
@@ -78,7 +79,7 @@ fn first_of<S: DotSet>(
     behind: &[u8],
 ) -> Result<First<S>, Fault>
     requires size { size ≡ length (snapshot_text_in format replica) }
-    requires sum { sum ≡ sha256 (snapshot_text_in format replica) }
+    requires sum { size ≤ LIMIT → sum ≡ sha256 (snapshot_text_in format replica) }
     requires value { IsSnapshot replica }
     ensures same { IfOk result (λ first. (first.format ≡ format) × (first.replica ≡ replica)) }
     ensures first { IfOk result (λ first. IsFirst format replica first.length first.sum) }
@@ -101,11 +102,10 @@ fn first_of<S: DotSet>(
 
 // The SHA-256 of what a hasher holds and of the last bytes, without so many at their end.
 fn sum_of(hasher: Sha256, last: &[u8], behind: usize) -> [u8; 32]
-    requires { behind ≤ length last.now }
     ensures { (held : List ℕ) → Holds256 hasher held → result ≡ sha256 (held ++ take (length last.now - behind) last.now) }
 {
     let mut hasher = hasher;
-    hasher.update(&last[..last.len() - behind]);
+    hasher.update(&last[..last.len().saturating_sub(behind)]);
     hasher.finalize()
 }
 
@@ -224,6 +224,7 @@ fn ended<S: DotSet>(
     ensures stored { (bytes : List ℕ) → IsFile bytes format snapshot replay.replica
         → replay.whole ≡ length bytes → IfOk result (λ s. IsStored (bytes ++ rest.now) s.kept s.layout) }
     ensures value { IfOk result (λ s. IsSnapshot s.kept) }
+    ensures torn { OnOk result (IsTorn rest.now) }
     ensures at { IfErr result (λ r. r.at ≡ replay.whole) }
     ensures refused { IfErr result (λ r. RefusesEnd replay.whole rest.now r.fault) }
 {

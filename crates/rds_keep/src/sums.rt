@@ -46,9 +46,14 @@ pub fn behind_sum<'a>(sum: &[u8; 32], bytes: &'a [u8]) -> Result<Option<&'a [u8]
     let Some((payload, rest)) = first_record(bytes) else {
         return Ok(None);
     };
-    match payload.split_first() {
-        Some((&SUM, told)) if told == sum.as_slice() => Ok(Some(rest)),
-        Some((&SUM, _)) => Err(Fault::Bad),
-        _ => Ok(None),
+    let Some((kind, told)) = payload.split_first() else {
+        return Ok(None);
+    };
+    if *kind != SUM {
+        return Ok(None);
     }
+    if told != sum.as_slice() {
+        return Err(Fault::Bad);
+    }
+    Ok(Some(rest))
 }

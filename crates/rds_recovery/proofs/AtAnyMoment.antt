@@ -5,7 +5,7 @@ use Rattle.rds_journal.specs.Appending.{KeepsFront}
 use Rattle.rds_journal.proofs.Moments.{weaker}
 use Rattle.rds_keep.specs.Kept.{IsFile, IsStored}
 use Rattle.rds_recovery.specs.AtAnyMoment.{HasAllOf, IsSafe, SafeIsRead, SafeIsWithin, StaysSafe, SyncedIsSafe}
-use Rattle.rds_recovery.proofs.ReadingOn.{ends_grown, file_on, whole_front}
+use Rattle.rds_recovery.proofs.ReadingOn.{ends_on_grown, file_on, whole_front}
 use Rattle.rds_recovery.proofs.WholeWithin.{whole_within}
 
 pub synced_safe : (may_leave : List ℕ → Type 0) → SyncedIsSafe may_leave
@@ -23,7 +23,7 @@ synced_safe may_leave file v layout only stored =
 begins_read : (v : ReplicaValue) (bytes : List ℕ) (may_leave : List ℕ → Type 0) → IsSafe v bytes may_leave → (c : List ℕ) → take (length bytes) c ≡ bytes → HasAllOf v c
 begins_read v bytes may_leave safe c begins found holds =
     let parts : c ≡ bytes ++ drop (length bytes) c = sym (take-append-drop (length bytes) c) ∙ ap (λ (t : List ℕ). t ++ drop (length bytes) c) begins in
-    ends_grown v (drop (length bytes) c) found
+    ends_on_grown v (drop (length bytes) c) found
     (file_on bytes (drop (length bytes) c) safe.format safe.snapshot v found holds.0 safe.file (subst (λ (t : List ℕ). IsStored t found holds.0) parts holds.1))
 
 pub safe_read : (may_leave : List ℕ → Type 0) → SafeIsRead may_leave

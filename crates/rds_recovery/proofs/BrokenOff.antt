@@ -11,8 +11,10 @@ use Rattle.rds_keep.specs.Changes.{ChangeValue, change_text}
 use Rattle.rds_keep.specs.Kept.{AreMade, EndsAs, IsStored, records_text}
 use Rattle.rds_keep.specs.declared.layout.Layout.{Layout}
 use Rattle.rds_recovery.specs.Recovery.{InOrderIsNoOther, IsBrokenOff, IsNoOther, KeepsUpTo, NoneIsMadeUp, TornIsNoOther}
+use Rattle.rds_keep.specs.Sums.{sum_payload}
 use Rattle.rds_keep.proofs.Chains.{ends_behind, same_first}
-use Rattle.rds_recovery.proofs.ReadingOn.{ends_there, read_on, whole_front}
+use Rattle.rds_keep.proofs.SumTexts.{no_change}
+use Rattle.rds_recovery.proofs.ReadingOn.{EndsOn, ends_there, read_on, whole_front}
 
 nothing_begun : IsBegun [] → ⊥
 nothing_begun begun = no_text begun.0 begun.1 begun.3
@@ -31,10 +33,20 @@ ends_by change behind found (c ∷ changes) torn is none ends made parts =
     let on = ends_behind change.before text one.0 is.change change.after found is.payload refl is.redone (subst (λ (t : List ℕ). EndsAs change.before t found) here ends) in
     inr (sym (ends_there change.after one.0 found on one.2))
 
+-- nor one of a checksum
+ends_on_by : (change : ChangedValue) (behind : List ℕ) (found : ReplicaValue) → IsRecordOf change → IsNoOther change.bytes behind → EndsOn change.before behind found → (found ≡ change.before) ⊎ (found ≡ change.after)
+ends_on_by change behind found is none (inl ends) = ends_by change behind found ends.changes ends.torn is none ends ends.made ends.parts
+ends_on_by change behind found is none (inr sum) =
+    let own = change.before.own in
+    let text = change_text own is.change in
+    let one = none (sum_payload sum.0, sum.1, sum.2, sum.3) in
+    let here : behind ≡ record_text text ++ one.0 = one.1 ∙ ap (λ (t : List ℕ). t ++ one.0) is.bytes in
+    let same = same_first (sum_payload sum.0) sum.1 text one.0 sum.2 is.payload (sym sum.3 ∙ here) in
+    absurd (no_change own is.change sum.0 same.0)
+
 pub none_made_up : (file : List ℕ) (change : ChangedValue) (layout : Layout) (left : List ℕ) → NoneIsMadeUp file change layout left
 none_made_up file change layout left found stored is broken read =
-    let ends = read_on file left change.before found layout stored broken.front read in
-    ends_by change (drop layout.whole left) found ends.changes ends.torn is broken.no_other ends ends.made ends.parts
+    ends_on_by change (drop layout.whole left) found is broken.no_other (read_on file left change.before found layout stored broken.front read)
 
 -- ---- where no other record stands
 

@@ -3,7 +3,7 @@ use Rattle.std.proofs.Common.{◌≡◌, ℕ, Bool, true, false, List, [], ◌�
 use Rattle.std.specs.List.{AllByRecursion}
 use Rattle.rds_state.specs.Fits.{ReplicaValue}
 use Rattle.rds_recovery.specs.Recovery.{Append, AreAppends, Holds, IsAppend, IsGrown, KeepsUpTo, Leaves, NoneIsLost, last_left}
-use Rattle.rds_recovery.proofs.ReadingOn.{changed_grown, ends_grown, grown_on, hold_one, not_grown, read_on}
+use Rattle.rds_recovery.proofs.ReadingOn.{changed_grown, ends_on_grown, grown_on, hold_one, not_grown, read_on}
 
 -- what is read of the first file, where there is one that is read at the end
 read_first : (file : List ℕ) (appends : List Append) (found : ReplicaValue) → AreAppends file appends → Holds (last_left file appends) found → (v : ReplicaValue) × Holds file v
@@ -27,7 +27,7 @@ one_on kept file a next is leaves read = by kept leaves
     all holds = grown_on a.change.before a.change.after next grown (done holds)
 
     front : KeepsUpTo a.layout.whole file a.left → IsGrown a.change.before next
-    front keeps = ends_grown a.change.before (drop a.layout.whole a.left) next (read_on file a.left a.change.before next a.layout is.read keeps read)
+    front keeps = ends_on_grown a.change.before (drop a.layout.whole a.left) next (read_on file a.left a.change.before next a.layout is.read keeps read)
 
     by : (k : Bool) → Leaves k file a → Goes a k next
     by true holds = record { before = all holds; after = λ e. done holds }

@@ -2,7 +2,7 @@ use Rattle.std.proofs.Common.{rules, arith}
 use Rattle.std.proofs.lemmas.Grind.{common_steps}
 use Rattle.std.proofs.lemmas.Result.{err_from_is_err_and}
 use Rattle.rds_keep.specs.Parts.{ConsumesAtMost}
-use Rattle.rds_keep.proofs.FirstParts.{first_bound, first_value, leading_refuses, loses_first, magic_refuses, text_size, too_long_refuses, unread_refuses}
+use Rattle.rds_keep.proofs.FirstParts.{first_bound, first_value, leading_refuses, loses_first, magic_refuses, text_hashed, text_size, too_long_refuses, unread_refuses}
 use Rattle.rds_keep.proofs.Fronts.{never_foreign}
 use Rattle.rds_keep.proofs.stored.read_first.Goals as goal
 
@@ -38,9 +38,9 @@ returns-in_err-first-clause-refused g c =
     let p = err_from_is_err_and c.from_residual-in_err-first.result c.from_residual-in_err-first.ensures.1 in
     let leading = c.in_ok-leading.leading in
     let total = text_size _ c.unfinished_snapshot.ensures c.in_ok-front.front.items (g.R.Read.remaining c.args.reader.now.inner) (g.R.Read.remaining c.read_magic.new.reader.inner) (g.R.Read.remaining c.read_leading.new.self.inner) (g.R.Read.remaining c.hold_more.new.reader.inner)
-    leading.value leading.count leading.behind.items c.hold_more.new.held.items c.in_ok-front.ensures.bytes c.in_ok-leading.ensures.leads c.in_ok-hold_more.ensures.more in
+    leading.value leading.count leading.behind.items leading.hasher leading.last.items c.hold_more.new.held.items c.in_ok-front.ensures.bytes c.in_ok-leading.ensures.leads c.in_ok-hold_more.ensures.more in
     rw (p.1, p.2) (too_long_refuses _ c.unfinished_snapshot.ensures c.in_ok-front.front.items (g.R.Read.remaining c.args.reader.now.inner) (g.R.Read.remaining c.read_magic.new.reader.inner) (g.R.Read.remaining c.read_leading.new.self.inner) (g.R.Read.remaining c.hold_more.new.reader.inner)
-    leading.value leading.count leading.behind.items c.hold_more.new.held.items c.in_ok-front.ensures.bytes c.in_ok-leading.ensures.leads c.in_ok-hold_more.ensures.more c.saturating_sub-size.result _ (grind (arith, common_steps)) c.in_err-first.ensures.fault)
+    leading.value leading.count leading.behind.items leading.hasher leading.last.items c.hold_more.new.held.items c.in_ok-front.ensures.bytes c.in_ok-leading.ensures.leads c.in_ok-hold_more.ensures.more c.saturating_sub-size.result _ (grind (arith, common_steps)) c.in_err-first.ensures.fault)
 
 pub returns-in_err-first-clause-foreign : goal.returns-in_err-first-clause-foreign
 returns-in_err-first-clause-foreign g c =
@@ -53,21 +53,32 @@ pub first_of-requires-clause-size : goal.first_of-requires-clause-size
 first_of-requires-clause-size g c =
     let leading = c.in_ok-leading.leading in
     let total = text_size _ c.unfinished_snapshot.ensures c.in_ok-front.front.items (g.R.Read.remaining c.args.reader.now.inner) (g.R.Read.remaining c.read_magic.new.reader.inner) (g.R.Read.remaining c.read_leading.new.self.inner) (g.R.Read.remaining c.hold_more.new.reader.inner)
-    leading.value leading.count leading.behind.items c.hold_more.new.held.items c.in_ok-front.ensures.bytes c.in_ok-leading.ensures.leads c.in_ok-hold_more.ensures.more in
+    leading.value leading.count leading.behind.items leading.hasher leading.last.items c.hold_more.new.held.items c.in_ok-front.ensures.bytes c.in_ok-leading.ensures.leads c.in_ok-hold_more.ensures.more in
     grind (arith, common_steps)
+
+pub first_of-requires-clause-sum : goal.first_of-requires-clause-sum
+first_of-requires-clause-sum g c within =
+    let leading = c.in_ok-leading.leading in
+    let leads = c.in_ok-leading.ensures.leads in
+    let total = text_size _ c.unfinished_snapshot.ensures c.in_ok-front.front.items (g.R.Read.remaining c.args.reader.now.inner) (g.R.Read.remaining c.read_magic.new.reader.inner) (g.R.Read.remaining c.read_leading.new.self.inner) (g.R.Read.remaining c.hold_more.new.reader.inner)
+    leading.value leading.count leading.behind.items leading.hasher leading.last.items c.hold_more.new.held.items c.in_ok-front.ensures.bytes leads c.in_ok-hold_more.ensures.more in
+    let hashed = text_hashed _ c.unfinished_snapshot.ensures c.in_ok-front.front.items (g.R.Read.remaining c.args.reader.now.inner) (g.R.Read.remaining c.read_magic.new.reader.inner) (g.R.Read.remaining c.read_leading.new.self.inner) (g.R.Read.remaining c.hold_more.new.reader.inner)
+    leading.value leading.count leading.behind.items leading.hasher leading.last.items c.hold_more.new.held.items c.in_ok-front.ensures.bytes leads c.in_ok-hold_more.ensures.more (grind (arith, common_steps)) in
+    let sum = c.sum_of-sum.ensures leads.hashed leads.holds in
+    grind (sum, hashed, common_steps)
 
 pub first_of-requires-clause-value : goal.first_of-requires-clause-value
 first_of-requires-clause-value g c =
     let leading = c.in_ok-leading.leading in
     first_value _ c.unfinished_snapshot.ensures c.in_ok-front.front.items (g.R.Read.remaining c.args.reader.now.inner) (g.R.Read.remaining c.read_magic.new.reader.inner) (g.R.Read.remaining c.read_leading.new.self.inner) (g.R.Read.remaining c.hold_more.new.reader.inner)
-    leading.value leading.count leading.behind.items c.hold_more.new.held.items c.in_ok-front.ensures.bytes c.in_ok-leading.ensures.leads c.in_ok-hold_more.ensures.more
+    leading.value leading.count leading.behind.items leading.hasher leading.last.items c.hold_more.new.held.items c.in_ok-front.ensures.bytes c.in_ok-leading.ensures.leads c.in_ok-hold_more.ensures.more
 
 pub returns-clause-loses : goal.returns-clause-loses
 returns-clause-loses g c =
     let leading = c.in_ok-leading.leading in
     let is = c.in_ok-first.ensures.same in
     rw (is.0, is.1) (loses_first _ c.unfinished_snapshot.ensures c.in_ok-front.front.items (g.R.Read.remaining c.args.reader.now.inner) (g.R.Read.remaining c.read_magic.new.reader.inner) (g.R.Read.remaining c.read_leading.new.self.inner) (g.R.Read.remaining c.hold_more.new.reader.inner)
-    leading.value leading.count leading.behind.items c.hold_more.new.held.items c.in_ok-front.ensures.bytes c.in_ok-leading.ensures.leads c.in_ok-hold_more.ensures.more)
+    leading.value leading.count leading.behind.items leading.hasher leading.last.items c.hold_more.new.held.items c.in_ok-front.ensures.bytes c.in_ok-leading.ensures.leads c.in_ok-hold_more.ensures.more)
 
 pub returns-clause-first : goal.returns-clause-first
 returns-clause-first g c = let is = c.in_ok-first.ensures.same in rw (is.0, is.1) c.in_ok-first.ensures.first
@@ -76,7 +87,7 @@ pub returns-clause-bound : goal.returns-clause-bound
 returns-clause-bound g c =
     let leading = c.in_ok-leading.leading in
     first_bound _ c.unfinished_snapshot.ensures c.in_ok-front.front.items (g.R.Read.remaining c.args.reader.now.inner) (g.R.Read.remaining c.read_magic.new.reader.inner) (g.R.Read.remaining c.read_leading.new.self.inner) (g.R.Read.remaining c.hold_more.new.reader.inner)
-    leading.value leading.count leading.behind.items c.hold_more.new.held.items c.in_ok-front.ensures.bytes c.in_ok-leading.ensures.leads c.in_ok-hold_more.ensures.more
+    leading.value leading.count leading.behind.items leading.hasher leading.last.items c.hold_more.new.held.items c.in_ok-front.ensures.bytes c.in_ok-leading.ensures.leads c.in_ok-hold_more.ensures.more
     c.args.reader.now.turns c.read_magic.new.reader.left c.read_leading.new.self.left c.hold_more.new.reader.left c.in_ok-front.ensures.magic c.in_ok-front.ensures.bound c.in_ok-leading.ensures.bound c.in_ok-hold_more.ensures.bound
     c.in_ok-front.ensures.left c.in_ok-leading.ensures.left c.in_ok-hold_more.ensures.left
 

@@ -1,0 +1,96 @@
+-- The record of a checksum behind a snapshot: what stands first there, and what doesn't.
+use Rattle.std.proofs.Common.{◌≡◌, ℕ, ◌+◌, ◌<◌, ◌≤◌, ◌⊎◌, inl, inr, Bool, true, false, List, [], ◌∷◌, ◌++◌, length, get_or, Option, Some, None, refl, sym, ap, ◌∙◌, subst, arith, append_assoc}
+use Rattle.std.proofs.lemmas.List.{length-append}
+use Rattle.sha2.specs.Sha256.{sha256}
+use Rattle.sha2.proofs.Facts256.{length-sha256}
+use Rattle.rds_names.specs.Roster.{RosterValue}
+use Rattle.rds_state.specs.Fits.{ReplicaValue}
+use Rattle.rds_journal.specs.Records.{IsBegun, IsPayload, IsTorn, record_text}
+use Rattle.rds_journal.specs.declared.records.TheConstants.{MOST, HEAD}
+use Rattle.rds_journal.proofs.Format.{length_record}
+use Rattle.rds_keep.specs.Changes.{ChangeValue, change_text, front_text}
+use Rattle.rds_keep.specs.Kept.{AreMade, records_text}
+use Rattle.rds_keep.specs.Sums.{HasNoSum, HasOtherSum, sum_payload, sum_text}
+use Rattle.rds_keep.proofs.Chains.{first_record_of, not_torn, same_first}
+
+-- ---- such a record
+
+pub sum_is_payload : (bytes : List ℕ) → IsPayload (sum_payload (sha256 bytes))
+sum_is_payload bytes = let size = length-sha256 bytes in omega (arith, size)
+
+pub sum_length : (bytes : List ℕ) → length (record_text (sum_payload (sha256 bytes))) ≡ 69
+sum_length bytes = let size = length-sha256 bytes in omega (arith, size, length_record (sum_payload (sha256 bytes)))
+
+-- ---- no change has it
+
+first_of : List ℕ → ℕ
+first_of bytes = get_or bytes 0 0
+
+no_front : (own : ℕ) (roster : Option RosterValue) (delta sum : List ℕ) → sum_payload sum ≡ front_text own roster ++ delta → ⊥
+no_front own None delta sum e = absurd (let no : 3 ≡ 1 = ap first_of e in omega (arith, no))
+no_front own (Some roster) delta sum e = absurd (let no : 3 ≡ 2 = ap first_of e in omega (arith, no))
+
+pub no_change : (own : ℕ) (c : ChangeValue) (sum : List ℕ) → sum_payload sum ≡ change_text own c → ⊥
+no_change own c sum e = no_front own c.roster _ sum e
+
+-- where it stands first, there is no record of a change
+pub no_sum_first : (own : ℕ) (old : ReplicaValue) (changes : List ChangeValue) (new : ReplicaValue) (behind sum rest : List ℕ) → own ≡ old.own → AreMade old changes new → IsPayload (sum_payload sum)
+    → records_text own changes ++ behind ≡ record_text (sum_payload sum) ++ rest → changes ≡ []
+no_sum_first own old [] new behind sum rest is made short e = refl
+no_sum_first own old (c ∷ changes) new behind sum rest is made short e =
+    let payload : IsPayload (change_text own c) = subst (λ (n : ℕ). IsPayload (change_text n c)) (sym is) made.2 in
+    let same = same_first (sum_payload sum) rest (change_text own c) (records_text own changes ++ behind) short payload (sym e ∙ first_record_of own c changes behind) in
+    absurd (no_change own c sum same.0)
+
+-- the records of changes and a torn end don't begin with it
+pub no_sum_behind : (own : ℕ) (old : ReplicaValue) (changes : List ChangeValue) (new : ReplicaValue) (torn sum rest : List ℕ) → own ≡ old.own → AreMade old changes new → IsTorn torn → IsPayload (sum_payload sum)
+    → records_text own changes ++ torn ≡ record_text (sum_payload sum) ++ rest → ⊥
+no_sum_behind own old changes new torn sum rest is made end short e =
+    let none = no_sum_first own old changes new torn sum rest is made short e in
+    not_torn torn (sum_payload sum) rest end short (sym e ∙ ap (λ (cs : List ChangeValue). records_text own cs ++ torn) none)
+
+-- ---- whether a snapshot has it
+
+-- what stands behind it
+pub same_behind : (b d : Bool) (bytes behind rest : List ℕ) → ((more : List ℕ) → rest ≡ record_text (sum_payload (sha256 bytes)) ++ more → ⊥) → sum_text b bytes ++ behind ≡ sum_text d bytes ++ rest
+    → ((b ≡ d) × (behind ≡ rest)) ⊎ ((b ≡ false) × (d ≡ true) × (behind ≡ record_text (sum_payload (sha256 bytes)) ++ rest))
+same_behind true true bytes behind rest none e = inl (refl, (same_first (sum_payload (sha256 bytes)) behind (sum_payload (sha256 bytes)) rest (sum_is_payload bytes) (sum_is_payload bytes) e).1)
+same_behind true false bytes behind rest none e = absurd (none behind (sym e))
+same_behind false true bytes behind rest none e = inr (refl, refl, e)
+same_behind false false bytes behind rest none e = inl (refl, e)
+
+-- a record of another checksum stands first
+pub other_behind : (d : Bool) (bytes behind rest : List ℕ) → HasOtherSum (sha256 bytes) behind → ((told more : List ℕ) → IsPayload (sum_payload told) → rest ≡ record_text (sum_payload told) ++ more → ⊥) → behind ≡ sum_text d bytes ++ rest → ⊥
+other_behind true bytes behind rest is none e =
+    let same = same_first (sum_payload is.told) is.rest (sum_payload (sha256 bytes)) rest is.payload (sum_is_payload bytes) (sym is.parts ∙ e) in
+    is.other (tail_of is.told (sha256 bytes) same.0)
+  where
+    tail_of : (a b : List ℕ) → sum_payload a ≡ sum_payload b → a ≡ b
+    tail_of a b h = cc
+other_behind false bytes behind rest is none e = none is.told is.rest is.payload (sym e ∙ is.parts)
+
+pub other_more : (sum bytes more : List ℕ) → HasOtherSum sum bytes → HasOtherSum sum (bytes ++ more)
+other_more sum bytes more is = record {
+  told = is.told;
+  rest = is.rest ++ more;
+  parts = ap (λ (t : List ℕ). t ++ more) is.parts ∙ append_assoc (record_text (sum_payload is.told)) is.rest more;
+  payload = is.payload;
+  other = is.other;
+}
+
+-- fewer bytes have none, where more have none
+pub no_sum_before : (sum bytes more : List ℕ) → HasNoSum sum (bytes ++ more) → HasNoSum sum bytes
+no_sum_before sum bytes more none rest e = none (rest ++ more) (ap (λ (t : List ℕ). t ++ more) e ∙ append_assoc (record_text (sum_payload sum)) rest more)
+
+-- ---- what stands first
+
+-- no record begins
+pub none_begun_sum : (sum bytes : List ℕ) → IsPayload (sum_payload sum) → (IsBegun bytes → ⊥) → HasNoSum sum bytes
+none_begun_sum sum bytes short none rest e = none (sum_payload sum, rest, short, e)
+
+-- another payload
+pub other_payload_sum : (sum bytes payload behind more : List ℕ) → IsPayload (sum_payload sum) → IsPayload payload → bytes ≡ record_text payload ++ behind → (payload ≡ sum_payload sum → ⊥) → HasNoSum sum (bytes ++ more)
+other_payload_sum sum bytes payload behind more short short2 parts other rest e =
+    let all : bytes ++ more ≡ record_text payload ++ (behind ++ more) = ap (λ (t : List ℕ). t ++ more) parts ∙ append_assoc (record_text payload) behind more in
+    let same = same_first payload (behind ++ more) (sum_payload sum) rest short2 short (sym all ∙ e) in
+    other same.0
