@@ -9,7 +9,7 @@ use crate::disk::{Disk, note};
 use crate::lasting::make_last;
 use crate::targets::Target;
 use rds_dots::DotSet;
-use rds_keep::{Counted, Refused, Stored, read_stored};
+use rds_keep::{Counted, Layout, Refused, Stored, read_stored};
 use rds_names::Fault;
 use std::fs;
 use std::io::Read;
@@ -36,8 +36,8 @@ pub fn read_to_last<H: Disk, S: DotSet>(rt: &H, path: &str) -> Result<Stored<S>,
     Ok(stored)
 }
 
-// Opens the file of this path, which stands at that place, and reads the replica in it. Where it is damaged it is read
-// once more: another command may have been at work on it, since this one has no lock.
+// Opens the file of this path, which stands at that place, and reads the replica in it. Where it is damaged or has a torn
+// end it is read once more: another command may have been at work on it, since this one has no lock.
 fn read_unlocked<H: Disk, S: DotSet>(
     rt: &H,
     path: &str,
@@ -49,7 +49,8 @@ fn read_unlocked<H: Disk, S: DotSet>(
 {
     let mut file = open_file(rt, place)?;
     match read_stored(rt.alloc(), &mut Counted::new(&mut file)) {
-        Ok(stored) => Ok((file, stored)),
+        Ok(stored) if !is_torn(&stored.layout) => Ok((file, stored)),
+        Ok(_) => read_again(rt, path, place),
         Err(refused) if is_damage(&refused) => read_again(rt, path, place),
         Err(refused) => Err(told(rt, path, refused)),
     }
@@ -93,8 +94,27 @@ pub fn read_kept<H: Disk, S: DotSet, R: Read>(
         (λ fault. fault ≡ TooLong → IfSome (R.remaining file.old) (λ input. LIMIT < length input)) }
 {
     match read_stored(rt.alloc(), &mut Counted::new(file)) {
-        Ok(stored) => Ok(stored),
+        Ok(stored) => {
+            note_torn(rt, path, &stored.layout);
+            Ok(stored)
+        }
         Err(refused) => Err(told(rt, path, refused)),
+    }
+}
+
+// Whether a torn end stands behind the whole records.
+fn is_torn(layout: &Layout) -> bool {
+    layout.whole < layout.length
+}
+
+// Tells how much of a file is passed over, since it is no whole record.
+fn note_torn<H: Eprint>(rt: &H, path: &str, layout: &Layout) {
+    if is_torn(layout) {
+        let whole = layout.whole;
+        let count = layout.length.saturating_sub(whole);
+        let _ = eprintln!(rt;
+            "{path}: passes over {count} bytes from byte {whole} on: no whole record, as a crash or a cut copy leaves"
+        );
     }
 }
 

@@ -10,9 +10,9 @@ use std::fs::OpenOptions;
 use std::io::ErrorKind;
 use std::{fs, io};
 
-/// Refuses `Device` where another file stands at the path than the one that is held, or where that one hasn't the length
-/// that is known: what others put there isn't to be lost. Where nothing stands there, nothing would be. Standard error
-/// says why.
+/// Refuses `Device` where another file stands at the path than the one that is held, where that one has another name by
+/// now, or hasn't the length that is known: what others put there or moved away isn't to be lost, nor forked. Where it
+/// was removed, nothing would be. Standard error says why.
 pub fn check_standing<H: Disk>(
     rt: &H,
     path: &str,
@@ -48,7 +48,14 @@ where
 {
     let there = match fs::open(rt, path) {
         Ok(there) => there,
-        Err(error) if error.kind() == ErrorKind::NotFound => return Ok(None),
+        Err(error) if error.kind() == ErrorKind::NotFound => {
+            let is_moved = held.links()? > 0;
+            return Ok(if is_moved {
+                Some("has another name by now")
+            } else {
+                None
+            });
+        }
         Err(error) => return Err(error),
     };
     if !there.is_same(held)? {

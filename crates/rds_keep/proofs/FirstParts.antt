@@ -1,10 +1,11 @@
 -- The snapshot at the front of a file: how it is read, and why not.
-use Rattle.std.proofs.Common.{◌≡◌, ℕ, ◌+◌, ◌-◌, ◌<◌, ◌≤◌, ◌⊎◌, inl, inr, Bool, List, [], ◌++◌, length, take, drop, Option, Some, None, Result, Ok, Err, refl, sym, ap, ◌∙◌, subst, arith, append_assoc, append-nil, take-append-drop}
+use Rattle.std.proofs.Common.{◌≡◌, ℕ, ◌+◌, ◌-◌, ◌<◌, ◌≤◌, ◌⊎◌, inl, inr, Bool, true, false, cond, List, [], ◌++◌, length, take, drop, Option, Some, None, Result, Ok, Err, refl, sym, ap, ◌∙◌, subst, arith, append_assoc, append-nil, take-append-drop}
 use Rattle.std.specs.Prelude.{IfSome}
 use Rattle.std.specs.Io.KnownBytes.{Consumes}
 use Rattle.std.proofs.KnownBytes.{Consumes-trans}
 use Rattle.std.proofs.lemmas.Bool.{cases_lt}
 use Rattle.std.proofs.lemmas.List.{length-append, length-take, take-append-le, take_at}
+use Rattle.sha2.specs.Sha256.{sha256}
 use Rattle.sha2.specs.declared.Sha256.{Sha256}
 use Rattle.rds_names.specs.declared.fault.Fault.{Fault}
 use Rattle.rds_names.specs.declared.fault.Fault.TheVariants.{Memory, Cut, Bad, TooLong, Device}
@@ -15,6 +16,7 @@ use Rattle.rds_codec.specs.StateTexts.{IsSnapshot}
 use Rattle.rds_codec.specs.declared.formats.Format.{Format}
 use Rattle.rds_codec.specs.declared.limits.TheConstants.{LIMIT}
 use Rattle.rds_state.specs.Fits.{ReplicaValue}
+use Rattle.rds_journal.specs.Records.{record_text}
 use Rattle.rds_keep.specs.Counted.{most_read}
 use Rattle.rds_keep.specs.Feeding.{AreBytes}
 use Rattle.rds_keep.specs.Kept.{AreWhole, RefusesBytes}
@@ -22,9 +24,10 @@ use Rattle.rds_keep.specs.Leading.{Leads, RefusesFront}
 use Rattle.rds_keep.specs.Parts.{ConsumesAtMost}
 use Rattle.rds_keep.specs.Replay.{HoldsMore}
 use Rattle.rds_keep.specs.Snapshots.{IsForeign, IsMagic, IsShort}
-use Rattle.rds_keep.specs.Stored.{LosesFirst, LosesFront, first_and, front_and}
-use Rattle.rds_keep.specs.Sums.{sum_text, summed_text}
-use Rattle.rds_keep.proofs.Files.{front_is, none_stored, read_again}
+use Rattle.rds_keep.specs.Stored.{IsAllOf, IsFirst, IsFront, LosesFirst, LosesFront, first_and, front_and}
+use Rattle.rds_keep.specs.Sums.{HasNoSum, HasOtherSum, sum_payload, sum_text, summed_text}
+use Rattle.rds_keep.proofs.Files.{front_is, none_stored, none_summed, read_again}
+use Rattle.rds_keep.proofs.SumTexts.{other_more, sum_length}
 use Rattle.rds_keep.proofs.Foreign.{front_bad, front_cut, no_text}
 use Rattle.rds_keep.proofs.Fronts.{magic_is_four}
 
@@ -74,19 +77,19 @@ abbrev read_as : Snapshot → List ℕ → Result (Snapshot × List ℕ) Fault
 read_as s rest = Ok (s, rest)
 
 -- a list that begins with another
-front_of : (xs ys as bs : List ℕ) → xs ++ ys ≡ as ++ bs → length as ≤ length xs → xs ≡ as ++ drop (length as) xs
-front_of xs ys as bs e le =
-    let front : take (length as) xs ≡ as = sym (take-append-le (length as) xs ys le) ∙ ap (take (length as)) e ∙ take_at as bs (length as) refl in
-    sym (take-append-drop (length as) xs) ∙ ap (λ (t : List ℕ). t ++ drop (length as) xs) front
+front_of : (xs ys cs bs : List ℕ) → xs ++ ys ≡ cs ++ bs → length cs ≤ length xs → xs ≡ cs ++ drop (length cs) xs
+front_of xs ys cs bs e le =
+    let front : take (length cs) xs ≡ cs = sym (take-append-le (length cs) xs ys le) ∙ ap (take (length cs)) e ∙ take_at cs bs (length cs) refl in
+    sym (take-append-drop (length cs) xs) ∙ ap (λ (t : List ℕ). t ++ drop (length cs) xs) front
 
 -- one that goes on
-split_at : (xs ys as bs : List ℕ) → xs ++ ys ≡ as ++ bs → length xs ≤ length as → xs ++ take (length ys - length bs) ys ≡ as
-split_at xs ys as bs e le =
+split_at : (xs ys cs bs : List ℕ) → xs ++ ys ≡ cs ++ bs → length xs ≤ length cs → xs ++ take (length ys - length bs) ys ≡ cs
+split_at xs ys cs bs e le =
     let k = length ys - length bs in
-    let lengths : length xs + length ys ≡ length as + length bs = sym (length-append xs ys) ∙ ap length e ∙ length-append as bs in
-    let size : length (xs ++ take k ys) ≡ length as = omega (arith, lengths, le, length-append xs (take k ys), length-take k ys) in
-    let parts : (xs ++ take k ys) ++ drop k ys ≡ as ++ bs = append_assoc xs (take k ys) (drop k ys) ∙ ap (λ (t : List ℕ). xs ++ t) (take-append-drop k ys) ∙ e in
-    sym (take_at (xs ++ take k ys) (drop k ys) (length as) size) ∙ ap (take (length as)) parts ∙ take_at as bs (length as) refl
+    let lengths : length xs + length ys ≡ length cs + length bs = sym (length-append xs ys) ∙ ap length e ∙ length-append cs bs in
+    let size : length (xs ++ take k ys) ≡ length cs = omega (arith, lengths, le, length-append xs (take k ys), length-take k ys) in
+    let parts : (xs ++ take k ys) ++ drop k ys ≡ cs ++ bs = append_assoc xs (take k ys) (drop k ys) ∙ ap (λ (t : List ℕ). xs ++ t) (take-append-drop k ys) ∙ e in
+    sym (take_at (xs ++ take k ys) (drop k ys) (length cs) size) ∙ ap (take (length cs)) parts ∙ take_at cs bs (length cs) refl
 
 -- what was read up to it, and the bytes behind it
 pub leading_is : (read : Reader Snapshot) (front : List ℕ) (before after : Option (List ℕ)) (s : Snapshot) (count : ℕ) (behind : List ℕ) (hasher : Sha256) (last : List ℕ) → ((bytes : List ℕ) → read bytes ≡ snapshot_in_at bytes)
@@ -160,6 +163,45 @@ module _ (read : Reader Snapshot) (same : (bytes : List ℕ) → read bytes ≡ 
   )
 
 -- ---- what is behind it
+
+-- ---- the record of its checksum
+
+-- a front has so many bytes
+pub is_front : (format : Format) (b : Bool) (v : ReplicaValue) (count : ℕ) (sum : List ℕ) (total : ℕ) → IsFirst format v count sum → total ≡ count + cond b 69 0 → IsFront format b v total
+is_front format b v count sum total is same = record {
+  value = is.value;
+  size = (let size = is.size in omega (arith, size, same, sum_size b, length-append (snapshot_text_in format v) (sum_text b (snapshot_text_in format v))));
+  within = is.within;
+}
+  where
+    sum_size : (c : Bool) → length (sum_text c (snapshot_text_in format v)) ≡ cond c 69 0
+    sum_size true = sum_length (snapshot_text_in format v)
+    sum_size false = refl
+
+-- it stands first
+pub summed_parts : (format : Format) (v : ReplicaValue) (sum behind rest : List ℕ) → sum ≡ sha256 (snapshot_text_in format v) → behind ≡ record_text (sum_payload sum) ++ rest → first_and format v behind ≡ front_and format true v rest
+summed_parts format v sum behind rest is parts =
+    let text = snapshot_text_in format v in
+    let here : behind ≡ sum_text true text ++ rest = parts ∙ ap (λ (t : List ℕ). record_text (sum_payload t) ++ rest) is in
+    ap (λ (t : List ℕ). text ++ t) here ∙ sym (append_assoc text (sum_text true text) rest)
+
+pub summed_size : (format : Format) (v : ReplicaValue) (sum behind rest : List ℕ) → sum ≡ sha256 (snapshot_text_in format v) → behind ≡ record_text (sum_payload sum) ++ rest → length behind ≤ length rest + 69
+summed_size format v sum behind rest is parts =
+    let text = snapshot_text_in format v in
+    let here : behind ≡ sum_text true text ++ rest = parts ∙ ap (λ (t : List ℕ). record_text (sum_payload t) ++ rest) is in
+    omega (arith, ap length here, sum_length text, length-append (sum_text true text) rest)
+
+-- it doesn't
+pub unsummed_parts : (format : Format) (v : ReplicaValue) (behind : List ℕ) → first_and format v behind ≡ front_and format false v behind
+unsummed_parts format v behind = sym (append_assoc (snapshot_text_in format v) [] behind)
+
+pub unsummed_alone : (format : Format) (v : ReplicaValue) (sum behind : List ℕ) → sum ≡ sha256 (snapshot_text_in format v) → HasNoSum sum behind → IsAllOf format false v behind
+unsummed_alone format v sum behind is none = λ e. subst (λ (t : List ℕ). HasNoSum t behind) is none
+
+-- that of another does
+pub other_refused : (format : Format) (v : ReplicaValue) (count : ℕ) (sum behind more : List ℕ) (e : Fault) → IsFirst format v count sum → (e ≡ Bad) × HasOtherSum sum behind → RefusesBytes (first_and format v (behind ++ more)) e
+other_refused format v count sum behind more e is other =
+    rw (other.0) (λ w layout s. none_summed format v count sum (behind ++ more) w layout is (other_more sum behind more other.1) s)
 
 -- a front is a snapshot, and its checksum is behind it
 front_parts : (format : Format) (b : Bool) (v : ReplicaValue) (behind : List ℕ) → front_and format b v behind ≡ first_and format v (sum_text b (snapshot_text_in format v) ++ behind)

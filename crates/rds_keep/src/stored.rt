@@ -149,6 +149,35 @@ fn read_first<S: DotSet, R: Read>(
     Ok((first, behind))
 }
 
+impl<S: DotSet> First<S> {
+    // With the record of the checksum behind it, or without.
+    fn into_front(self, is_summed: bool) -> Front<S>
+        requires first { IsFirst self.format self.replica self.length self.sum }
+        ensures format { result.format ≡ self.format }
+        ensures replica { result.replica ≡ self.replica }
+        ensures is_summed { result.is_summed ≡ is_summed }
+        ensures front { IsFront self.format is_summed self.replica result.length }
+    {
+        let First {
+            format,
+            replica,
+            length,
+            sum: _sum,
+        } = self;
+        let length = if is_summed {
+            length + SUM_LENGTH
+        } else {
+            length
+        };
+        Front {
+            format,
+            replica,
+            length,
+            is_summed,
+        }
+    }
+}
+
 // Takes the record of a snapshot's checksum, where it stands first behind it. Refuses `Bad` where that of another does.
 fn take_sum<S: DotSet>(first: First<S>, behind: &[u8]) -> Result<(Front<S>, &[u8]), Fault>
     requires first { IsFirst first.format first.replica first.length first.sum }
@@ -162,24 +191,10 @@ fn take_sum<S: DotSet>(first: First<S>, behind: &[u8]) -> Result<(Front<S>, &[u8
         → RefusesBytes (first_and first.format first.replica (behind.now ++ more)) e) }
     ensures fault { IfErr result (λ e. e ≡ Bad) }
 {
-    let found = behind_sum(&first.sum, behind)?;
-    let First {
-        format,
-        replica,
-        length,
-        sum: _sum,
-    } = first;
-    let (is_summed, length, behind) = match found {
-        Some(rest) => (true, length + SUM_LENGTH, rest),
-        None => (false, length, behind),
-    };
-    let front = Front {
-        format,
-        replica,
-        length,
-        is_summed,
-    };
-    Ok((front, behind))
+    match behind_sum(&first.sum, behind)? {
+        Some(rest) => Ok((first.into_front(true), rest)),
+        None => Ok((first.into_front(false), behind)),
+    }
 }
 
 // Reads the snapshot that all that the reader holds begins with, the record of its checksum where it has one, and some
