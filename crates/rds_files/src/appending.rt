@@ -26,6 +26,11 @@ pub fn takes_record(layout: &Layout, count: usize) -> bool {
     matches!(layout.format, Format::Two) && records.saturating_add(count as u64) <= most
 }
 
+/// Whether the file takes records up to so many bytes, however short its snapshot is. Behind one of format 1 it takes none.
+pub fn is_put_off(layout: &Layout, most: u64) -> bool {
+    matches!(layout.format, Format::Two) && layout.whole < most
+}
+
 /// Appends the record of a change. There is nothing where the file would be too long.
 pub fn append_to<D: Device, S: DotSet>(
     device: &mut D,

@@ -284,8 +284,10 @@ where
         old: &H::File,
     ) -> io::Result<Beside<'a, H>> {
         let beside = Beside::create(rt, name, path, OWNER_MODE)?;
-        beside.file.take_rights(old)?;
-        Ok(beside)
+        match beside.file.take_rights(old) {
+            Ok(()) => Ok(beside),
+            Err(error) => Err(beside.told("cannot give the owner, group and mode to", error)),
+        }
     }
 
     // The same, and its lock is held.

@@ -7,7 +7,7 @@ ghost use Rattle.rds_keep.specs.Changes.{IsChanged};
 ghost use Rattle.rds_state.specs.Value.{size};
 ghost use Rattle.rds_files.specs.Files.{HoldsTooMuch, IsHeldAt, IsNoPlace, IsReadAt, IsReadBy, IsTooLongOrLost, IsUnkept, IsUnread, RefusesFile, RefusesLock, is_beside, read_more};
 
-use crate::appending::{Tail, append_to, takes_record};
+use crate::appending::{Tail, append_to, is_put_off, takes_record};
 use crate::beside::{Renewed, folder_of, keep_new, keep_over, renew};
 use crate::disk::{Disk, note};
 use crate::holders::lock_file;
@@ -295,6 +295,7 @@ where
             held: WasKept::of(&kept),
             layout: Some(layout),
             lasts: false,
+            put_off: 0,
             file,
         };
         (kept.replica(), emptied)
@@ -324,6 +325,8 @@ pub struct EmptiedFile<'a, H: Disk, S: DotSet> {
     layout: Option<Layout>,
     // Whether what it holds was synced, and its folder, since it was locked.
     lasts: bool,
+    // Up to how many bytes it takes records, however short its snapshot is: it couldn't be written anew.
+    put_off: u64,
     file: H::File,
 }
 
@@ -363,6 +366,7 @@ where
             held: before,
             layout: _,
             lasts: _,
+            put_off: _,
             file,
         } = self;
         let kept = keep_over(rt, replica, target.path(), &file)?;
@@ -459,7 +463,7 @@ where
 
     // The file, opened for writing, where one more record of so many bytes is worth its place.
     fn tail<'b>(&'b self, rt: &'b H, layout: &Layout, count: usize) -> Option<Tail<'b, H>> {
-        if takes_record(layout, count) {
+        if takes_record(layout, count) || is_put_off(layout, self.put_off) {
             Tail::open(rt, self.target.path(), &self.file, !self.lasts)
         } else {
             None
@@ -468,8 +472,9 @@ where
 
     /// Keeps this replica in the file as `keep` does, and holds the lock on. So the folder is synced once alone, and
     /// where nothing changed again there is nothing to sync. Where a call fails, the file is the next time written
-    /// anew. Where others put another file at the path meanwhile, or wrote to this one, that is `Device`, and what
-    /// stands there isn't touched.
+    /// anew. Where no file can be written beside it, it takes records up to twice its length before that is tried once
+    /// more. Where others put another file at the path meanwhile, moved this one, or wrote to it, that is `Device`, and
+    /// what stands there isn't touched.
     pub fn keep_on(
         &mut self,
         rt: &H,
@@ -486,20 +491,70 @@ where
             return Ok(());
         }
         self.check_standing(rt)?;
-        match self.append(rt, replica, &change) {
+        if self.append_on(rt, replica, &change)? {
+            return Ok(());
+        }
+        self.replace_or_append(rt, replica, &change)
+    }
+
+    // Appends the record of the change as `append` does, and tells whether it did.
+    fn append_on(
+        &mut self,
+        rt: &H,
+        replica: &Replica<S>,
+        change: &Change<'_, S>,
+    ) -> Result<bool, Fault>
+        requires changed { IsChanged self.old.kept change.now replica.now }
+        ensures kept { IfOk result (λ done. done ≡ true
+            → self.new ≡ record { path = self.old.path; kept = replica.now }) }
+        ensures left { IfOk result (λ done. done ≡ false → self.new ≡ self.old) }
+        ensures same { OnErr result (self.new ≡ self.old) }
+        ensures fault { IfErr result (IsUnkept replica.now) }
+    {
+        match self.append(rt, replica, change) {
             Ok(Some((kept, layout))) => {
                 self.held = kept;
                 self.layout = Some(layout);
                 self.lasts = true;
-                Ok(())
+                Ok(true)
             }
-            Ok(None) => self.replace_on(rt, replica),
+            Ok(None) => Ok(false),
             Err(Fault::Memory) => Err(Fault::Memory),
             Err(fault) => {
                 self.layout = None;
                 self.lasts = false;
                 Err(fault)
             }
+        }
+    }
+
+    // Keeps this replica as `replace_on` does; where no file can be written beside this one, as a record behind the
+    // others, however many these are.
+    fn replace_or_append(
+        &mut self,
+        rt: &H,
+        replica: &Replica<S>,
+        change: &Change<'_, S>,
+    ) -> Result<(), Fault>
+        requires changed { IsChanged self.old.kept change.now replica.now }
+        ensures kept { OnOk result (self.new ≡ record { path = self.old.path; kept = replica.now }) }
+        ensures same { OnErr result (self.new ≡ self.old) }
+        ensures fault { IfErr result (IsUnkept replica.now) }
+    {
+        let layout = self.layout;
+        match self.replace_on(rt, replica) {
+            Err(Fault::Device) => {}
+            answer => return answer,
+        }
+        let Some(layout) = layout else {
+            return Err(Fault::Device);
+        };
+        self.layout = Some(layout);
+        self.put_off = layout.whole.saturating_mul(2);
+        if self.append_on(rt, replica, change)? {
+            Ok(())
+        } else {
+            Err(Fault::Device)
         }
     }
 
