@@ -62,13 +62,17 @@ front_is came behind s fits is = (let read = snapshot_in_reader.takes came (s, b
 
 -- ---- behind it
 
+-- two snapshots are one
+abbrev pub IsSameSnapshot : Format → ReplicaValue → Format → ReplicaValue → Type 0
+IsSameSnapshot f v g w = ◌≡◌ {A = Snapshot} (f, v) (g, w)
+
 -- which replica's snapshot stored bytes begin with, and what stands behind it
 pub stored_parts : (format : Format) (first : ReplicaValue) (rest bytes : List ℕ) (w : ReplicaValue) (layout : Layout) → IsSnapshot first → length (snapshot_text_in format first) ≤ LIMIT → bytes ≡ first_and format first rest → (s : IsStored bytes w layout)
-    → ((format, first) ≡ (layout.format, s.file.first)) × (rest ≡ sum_text s.file.is_summed (snapshot_text_in format first) ++ stored_rest s)
+    → IsSameSnapshot format first layout.format s.file.first × (rest ≡ sum_text s.file.is_summed (snapshot_text_in format first) ++ stored_rest s)
 stored_parts format first rest bytes w layout is within parts s =
     let one : snapshot_in_at bytes ≡ found format first rest = ap snapshot_in_at parts ∙ read_again format first rest is within in
     let both = ok_is ((format, first), rest) ((layout.format, s.file.first), stored_behind s) (sym one ∙ stored_front bytes w layout s) in
-    let which : (format, first) ≡ (layout.format, s.file.first) = ap (λ (p : Snapshot × List ℕ). p.0) both in
+    let which : IsSameSnapshot format first layout.format s.file.first = ap (λ (p : Snapshot × List ℕ). p.0) both in
     let same : rest ≡ stored_behind s = ap (λ (p : Snapshot × List ℕ). p.1) both in
     (which, same ∙ ap (λ (p : Snapshot). sum_text s.file.is_summed (snapshot_text_in p.0 p.1) ++ stored_rest s) (sym which))
 
@@ -86,12 +90,12 @@ stored_either format b first behind bytes w layout is within parts s =
     same_behind b s.file.is_summed text behind (stored_rest s) (λ more e. no_sum_stored bytes w layout s (sha256 text) more (sum_is_payload text) e) both.1
 
 pub stored_first : (format : Format) (b : Bool) (first : ReplicaValue) (behind bytes : List ℕ) (w : ReplicaValue) (layout : Layout) → IsSnapshot first → length (snapshot_text_in format first) ≤ LIMIT → bytes ≡ front_and format b first behind
-    → (s : IsStored bytes w layout) → (format, first) ≡ (layout.format, s.file.first)
+    → (s : IsStored bytes w layout) → IsSameSnapshot format first layout.format s.file.first
 stored_first format b first behind bytes w layout is within parts s =
     (stored_parts format first (sum_text b (snapshot_text_in format first) ++ behind) bytes w layout is within (parts ∙ front_parts format b first behind) s).0
 
 -- a file's end, from its first replica on
-pub ends_from : (format : Format) (first : ReplicaValue) (behind bytes : List ℕ) (w : ReplicaValue) (layout : Layout) → (s : IsStored bytes w layout) → (format, first) ≡ (layout.format, s.file.first) → behind ≡ stored_rest s → EndsAs first behind w
+pub ends_from : (format : Format) (first : ReplicaValue) (behind bytes : List ℕ) (w : ReplicaValue) (layout : Layout) → (s : IsStored bytes w layout) → IsSameSnapshot format first layout.format s.file.first → behind ≡ stored_rest s → EndsAs first behind w
 ends_from format first behind bytes w layout s which parts =
     let replica : first ≡ s.file.first = ap (λ (p : Snapshot). p.1) which in
     subst (λ (v : ReplicaValue). EndsAs v behind w) (sym replica) (record { changes = s.file.changes; torn = s.torn; parts = parts; made = s.file.made; end = s.end })
@@ -109,7 +113,7 @@ pub none_summed : (format : Format) (first : ReplicaValue) (count : ℕ) (sum be
 none_summed format first count sum behind w layout is other s =
     let text = snapshot_text_in format first in
     let same = stored_parts format first behind (first_and format first behind) w layout is.value is.within refl s in
-    let here : HasOtherSum (sha256 text) behind = subst (λ (t : List ℕ). HasOtherSum t behind) is.sum other in
+    let here : HasOtherSum (sha256 text) behind = subst (λ (t : List ℕ). HasOtherSum t behind) is.hash other in
     other_behind s.file.is_summed text behind (stored_rest s) here (λ told more short e. no_sum_stored (first_and format first behind) w layout s told more short e) same.1
 
 abbrev begun : ReplicaValue → ℕ → ReplayValue

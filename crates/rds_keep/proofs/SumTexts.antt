@@ -23,7 +23,7 @@ sum_length bytes = let size = length-sha256 bytes in omega (arith, size, length_
 
 -- ---- no change has it
 
-first_of : List ℕ → ℕ
+abbrev first_of : List ℕ → ℕ
 first_of bytes = get_or bytes 0 0
 
 no_front : (own : ℕ) (roster : Option RosterValue) (delta sum : List ℕ) → sum_payload sum ≡ front_text own roster ++ delta → ⊥

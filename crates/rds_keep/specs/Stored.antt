@@ -17,7 +17,7 @@ pub record IsFirst (format : Format) (v : ReplicaValue) (count : ℕ) (sum : Lis
   pub value : IsSnapshot v
   pub size : count ≡ length (snapshot_text_in format v)
   pub within : length (snapshot_text_in format v) ≤ LIMIT
-  pub sum : sum ≡ sha256 (snapshot_text_in format v)
+  pub hash : sum ≡ sha256 (snapshot_text_in format v)
 
 -- the bytes of a snapshot, and some behind it
 abbrev pub first_and : Format → ReplicaValue → List ℕ → List ℕ

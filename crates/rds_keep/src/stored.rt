@@ -164,16 +164,20 @@ impl<S: DotSet> First<S> {
             length,
             sum: _sum,
         } = self;
-        let length = if is_summed {
-            length + SUM_LENGTH
+        if is_summed {
+            Front {
+                format,
+                replica,
+                length: length + SUM_LENGTH,
+                is_summed,
+            }
         } else {
-            length
-        };
-        Front {
-            format,
-            replica,
-            length,
-            is_summed,
+            Front {
+                format,
+                replica,
+                length,
+                is_summed,
+            }
         }
     }
 }

@@ -6,6 +6,7 @@ ghost use Rattle.rds_journal.specs.declared.records.TheConstants.{MOST, HEAD};
 ghost use Rattle.rds_keep.specs.Kept.{IsStored, new_layout};
 ghost use Rattle.rds_keep.specs.Sums.{EncodesFile, HasNoSum, HasOtherSum, sum_payload};
 
+use crate::leading::hold_bytes;
 use rds_codec::encode_snapshot;
 use rds_dots::DotSet;
 use rds_journal::{first_record, put_record};
@@ -28,6 +29,7 @@ pub fn encode_file<S: DotSet>(alloc: Global, replica: &Replica<S>) -> Result<Vec
     ensures stored { IfOk result (λ bytes. IsStored bytes.items replica.now (new_layout (length bytes.items))) }
 {
     let mut bytes = encode_snapshot(alloc, replica)?;
+    hold_bytes(bytes.as_slice());
     let mut payload = Vec::with_capacity(alloc, 33)?;
     payload.push(SUM)?;
     payload.extend_from_slice(&Sha256::digest(bytes.as_slice()))?;

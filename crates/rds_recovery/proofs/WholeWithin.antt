@@ -14,7 +14,7 @@ use Rattle.rds_keep.specs.Kept.{AreMade, IsFile, IsStored}
 use Rattle.rds_keep.specs.declared.layout.Layout.{Layout}
 use Rattle.rds_keep.specs.Stored.{front_and}
 use Rattle.rds_keep.specs.Sums.{sum_payload, sum_text, summed_text}
-use Rattle.rds_keep.proofs.Files.{stored_either, stored_first, stored_rest}
+use Rattle.rds_keep.proofs.Files.{IsSameSnapshot, stored_either, stored_first, stored_rest}
 use Rattle.rds_keep.proofs.SumTexts.{no_sum_first, sum_is_payload}
 
 are_payloads : (old : ReplicaValue) (changes : List ChangeValue) (new : ReplicaValue) → AreMade old changes new → All IsPayload (map (change_text old.own) changes)
@@ -57,7 +57,7 @@ whole_within whole behind format count v w layout file read = elim (stored_eithe
     parts : whole ++ behind ≡ front_and format b first (journal_text payloads ++ behind)
     parts = ap (λ (t : List ℕ). t ++ behind) file.parts ∙ append_assoc front (journal_text payloads) behind
 
-    which : (format, first) ≡ (layout.format, others)
+    which : IsSameSnapshot format first layout.format others
     which = stored_first format b first (journal_text payloads ++ behind) (whole ++ behind) w layout file.value file.within parts read
 
     size : length whole ≡ length front + length (journal_text payloads)

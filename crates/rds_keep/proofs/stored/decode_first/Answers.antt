@@ -36,4 +36,4 @@ first_of-requires-clause-sum g c within =
     let size = step_size _ c.unfinished_snapshot.ensures c.args.bytes.now c.in_ok-value.rest.now c.in_ok-value.value c.hold_bytes.ensures c.in_ok-value.ensures.whole in
     let text = snapshot_text_in c.in_ok-value.value.0 c.in_ok-value.value.1 in
     let front : take c.saturating_sub-size.result c.args.bytes.now ≡ text = ap (take c.saturating_sub-size.result) parts ∙ take_at text c.in_ok-value.rest.now c.saturating_sub-size.result (grind (arith, common_steps)) in
-    grind (front, common_steps)
+    grind (arith, common_steps)

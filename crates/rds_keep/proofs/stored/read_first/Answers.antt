@@ -65,7 +65,7 @@ first_of-requires-clause-sum g c within =
     let hashed = text_hashed _ c.unfinished_snapshot.ensures c.in_ok-front.front.items (g.R.Read.remaining c.args.reader.now.inner) (g.R.Read.remaining c.read_magic.new.reader.inner) (g.R.Read.remaining c.read_leading.new.self.inner) (g.R.Read.remaining c.hold_more.new.reader.inner)
     leading.value leading.count leading.behind.items leading.hasher leading.last.items c.hold_more.new.held.items c.in_ok-front.ensures.bytes leads c.in_ok-hold_more.ensures.more (grind (arith, common_steps)) in
     let sum = c.sum_of-sum.ensures leads.hashed leads.holds in
-    grind (sum, hashed, common_steps)
+    grind (arith, common_steps)
 
 pub first_of-requires-clause-value : goal.first_of-requires-clause-value
 first_of-requires-clause-value g c =

@@ -20,7 +20,7 @@ reading-init g c = record {
   turns = refl;
   renamed = refl;
   hashed = [];
-  holds = c.new.ensures;
+  holds = c.new-hasher.ensures;
   parts = append-nil c.args.front.items;
   within = omega arith;
   short = inl refl;
@@ -46,8 +46,8 @@ reading-preserved g c =
       turns = search rules;
       renamed = search rules;
       hashed = led.hashed ++ drop c.reading.last c.reading.held.items;
-      holds = grind (c.update.ensures led.hashed led.holds, common_steps);
-      parts = hashed_on finish c.args.front.items led.given rest held led.hashed (drop c.reading.last c.reading.held.items) led.parts c.in_ok-read_on.ensures.appends;
+      holds = (let held = c.update.ensures led.hashed led.holds in grind (arith, common_steps));
+      parts = (let on = hashed_on finish c.args.front.items led.given rest held led.hashed (drop c.reading.last c.reading.held.items) led.parts c.in_ok-read_on.ensures.appends in grind (arith, common_steps));
       within = grind (arith, common_steps);
       short = inr (hashed_short finish c.args.unfinished c.reading.unfinished c.in-More.next c.args.front.items led.given c.reading.held.items rest led.hashed (drop c.reading.last c.reading.held.items) c.in_ok-progress.progress c.in-More.is led.same reads led.parts);
     }
@@ -70,9 +70,9 @@ returns-in-Whole-clause-leads g c =
     let finish = g.U.Unfinished.finish in
     let led = c.reading.invariant in
     let rest = c.in_ok-rest.rest.items in
-    let last = c.in_ok-last.last.items in
+    let last = c.in_ok-last-in-Whole.last.items in
     let reads : ReadsOn finish (λ more. finish c.reading.unfinished (c.reading.held.items ++ more)) c.in_ok-progress.progress rest = rw (c.deref.ensures.value, ← c.in_ok-rest.ensures.items) at c.in_ok-progress.ensures.ok in
-    let same : last ≡ drop c.reading.last c.reading.held.items = search rules in
+    let same : last ≡ drop c.reading.last c.reading.held.items = grind (arith, common_steps) in
     let parts : c.args.front.items ++ led.given ≡ led.hashed ++ last = rw same led.parts in
     leads finish c.args.unfinished c.reading.unfinished c.args.front.items led.given c.reading.held.items rest led.hashed last c.reading.hasher _ _ c.reading.count c.in_ok-progress.progress c.in-Whole.value c.in-Whole.is led.same
     led.consumed led.size led.bytes reads led.holds parts led.short

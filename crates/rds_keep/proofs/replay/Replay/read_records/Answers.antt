@@ -32,7 +32,7 @@ reading-preserved g c =
       read = more_read c.args.self.now c.take_records.new.self _ _ _ c.args.behind.items rest c.hold_more.new.held.items
           (records_read c.args.self.now c.reading.self c.take_records.new.self _ _ c.args.behind.items held rest c.reading.invariant.read taken) more;
       member = taken_member c.reading.self c.take_records.new.self held rest taken c.reading.invariant.member;
-      end = more.end;
+      end = λ few. more.end (omega (arith, few));
       spent = spent_within _ _ _ c.hold_more.new.held.items rest _ _ _ c.reading.invariant.spent more c.in_ok-hold_more.ensures.bound (grind (arith, common_steps));
       steady = search rules;
       left = grind (arith, common_steps);
