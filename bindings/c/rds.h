@@ -267,10 +267,10 @@ const char *rds_status_text(uint32_t status);
  *
  * The files are those of `rds_node`, and so are the rules. A file is opened under its lock (flock), which is held until
  * rds_close: meanwhile `rds_node` and other programs with this library wait for it or are refused. It is a snapshot,
- * its checksum, and behind them records of what changed since. Each keep appends a record, or writes a new file beside it (FILE.new),
- * which is synced and renamed: that is where the records would be longer than the snapshot. Where a path is a symbolic
- * link, all that is done to the file that it leads to. A system without these calls has no such files: Windows isn't
- * supported.
+ * its checksum, and behind them records of what changed since. Each keep appends a record, or writes a new file beside
+ * it (FILE.new), which is synced and renamed: that is where the records would be longer than the snapshot. Where a path
+ * is a symbolic link, all that is done to the file that it leads to. A system without these calls has no such files:
+ * Windows isn't supported.
  *
  * A process that forks keeps the lock until the child too has ended or called exec. */
 
