@@ -556,6 +556,7 @@ def judge_unwritable(node):
     folder, file, who = node.folder / "shut", node.folder / "shut/a.rds", {}
     folder.mkdir()
     program = shutil.copy(node.program, folder)
+    os.chmod(program, 0o755)
     node.told("init", f"{file}", "g", "a", "a")
     words = [program, "run", "a.rds", "--http", f"{HOST}:{node.port}"]
     if os.geteuid() == 0:

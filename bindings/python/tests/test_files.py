@@ -278,7 +278,7 @@ def test_files_that_are_none(tmp_path: Path) -> None:
             Replica.open(tmp_path / "text")
         assert caught.value.given == str(tmp_path / "text")
     with open(tmp_path / "long", "wb") as it:
-        it.truncate(268_435_457)
+        it.truncate(268_435_456 + 69 + 1)
     with pytest.raises(TooLong):
         Replica.open(tmp_path / "long")
 
