@@ -5,7 +5,7 @@ import subprocess
 
 from node_fakes import Fake, by_target, response, says
 from node_visits import at, nodes_of
-from plain_model import State, begun, change_text, read_file, record, snapshot_text
+from plain_model import SUM, State, begun, change_text, file_text, read_file, record
 from serving import HOST, LIMIT, TOKEN, running, want
 
 # Each is done on a file that nobody holds and at a node whose file is the same: words behind the program, with the
@@ -150,7 +150,7 @@ def try_joins(asked, folder):
             here = command(file, ["init", new, "--from"], "a.rds", [own])
             there = command(node, ["init", new, "--from"], place, [own])
             want(there[:2] == here[:2], f"'init {new} --from' a node {own} comes to {there}, and of a file to {here}")
-            is_due = here[0] or (node.folder / new).read_bytes() == snapshot_text(begun(held, own))
+            is_due = here[0] or (node.folder / new).read_bytes() == file_text(begun(held, own))
             want(is_due, f"'init {new} --from' a node {own} makes another file than is due")
         made = {each.name for each in node.folder.iterdir()} - {each.name for each in file.folder.iterdir()}
         want(made <= {"a.rds.node", "errors"}, f"a node's growth and its new replicas leave {made}")
@@ -233,16 +233,16 @@ def try_none(asked, folder):
 def try_wrong_snapshots(asked, folder):
     """What gives no snapshot, of which no file is made, and what gives one: its bytes are read as those of a file."""
     node, _ = nodes_of(asked, folder, "ab")
-    snapshot = (node.folder / "a.rds").read_bytes()
-    more = record(change_text(0, State()))
-    for body in b"", b"RDS2", b'{"ok":true}\n', snapshot[:-1], snapshot + more[:-1] + b"x" + more:
+    text = (node.folder / "a.rds").read_bytes()
+    more, snapshot, flipped = record(change_text(0, State())), text[:-SUM], text.replace(b"a", b"d", 1)
+    for body in b"", b"RDS2", b'{"ok":true}\n', snapshot[:-1], flipped, flipped + more, text + more[:-1] + b"x" + more:
         with Fake(says(response(body))) as fake:
             found = command(node, ["init", "c.rds", "--from"], at(fake.port), ["c"])
         is_due = found[0] == 1 and found[1].startswith(b"fault ") and found[2]
         want(is_due, f"'init --from' of what gives {body} comes to {found}")
         want(not (node.folder / "c.rds").exists(), f"a file is made of {body}")
-    due = snapshot_text(begun(read_file(snapshot).replica, "c"))
-    for number, body in enumerate([snapshot, snapshot + b"x", snapshot + more]):
+    due = file_text(begun(read_file(text).replica, "c"))
+    for number, body in enumerate([text, text + b"x", text + more, text[:-1], snapshot, snapshot + more]):
         with Fake(by_target(snapshot=response(body))) as fake:
             comes_to(node, ["init", f"c{number}.rds", "--from"], at(fake.port), ["c"], 0, b'{"ok":true}\n')
         want((node.folder / f"c{number}.rds").read_bytes() == due, f"of {body} another file is made than is due")

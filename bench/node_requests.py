@@ -11,7 +11,7 @@ import struct
 import subprocess
 import time
 
-from plain_model import Replica, State, appended, change_text, edited, grown, mark_of, read_file, snapshot_text, tag_of
+from plain_model import Replica, State, appended, change_text, edited, file_text, grown, mark_of, read_file, tag_of
 from serving import HOST, LIMIT, NOBODY, TOKEN, UPGRADE, Node, Noted, killed, running, soon, want
 
 # A request, and below it the status, the kind of content and the body that are due. '|' ends a line of a body, and
@@ -381,7 +381,7 @@ NAMES = [
 
 def judge_held(node, held):
     """Whether a node holds this replica: by its snapshot, and by what it tells of itself."""
-    answer, due = node.answer("GET", "/snapshot"), snapshot_text(held)
+    answer, due = node.answer("GET", "/snapshot"), file_text(held)
     found = answer.status, answer.headers.get("content-type"), answer.headers.get("etag"), answer.body
     is_due = found == (200, "application/octet-stream", None, due)
     want(is_due, f"of {held.names} GET /snapshot is answered {answer}, where {due} is due")
@@ -556,6 +556,7 @@ def judge_unwritable(node):
     folder, file, who = node.folder / "shut", node.folder / "shut/a.rds", {}
     folder.mkdir()
     program = shutil.copy(node.program, folder)
+    os.chmod(program, 0o755)
     node.told("init", f"{file}", "g", "a", "a")
     words = [program, "run", "a.rds", "--http", f"{HOST}:{node.port}"]
     if os.geteuid() == 0:

@@ -14,8 +14,9 @@ NAMES = {12: "Cut", 13: "Bad", 14: "Extra"} | {3: "BadKey", 4: "BadPath", 5: "Ba
 NAMES |= {2: "BadName", 6: "BadRoster"}
 NAMES |= {10: "OwnAhead", 11: "WrongAsker", 17: "BadCertificate", 18: "WrongVersion", 19: "WrongGroup", 20: "WrongRoster"}
 NAMES |= {21: "SameReplica", 22: "OutOfTurn", 23: "PeerEnded", 25: "BadLine", 26: "NoSuch", 27: "Usage", 28: "Forked", 29: "Unsure"}
-# The most bytes of a record's payload, how many stand before it, and how long records may always be before a file is written anew.
-MOST, HEAD, FEW = 65_536, 36, 65_536
+# The most bytes of a record's payload, how many stand before it, how long records may always be before a file is written anew, and
+# how many bytes the record of a snapshot's checksum has.
+MOST, HEAD, FEW, SUM = 65_536, 36, 65_536, 69
 # The most bytes that are read to tell that no record begins at any place of a torn end.
 SCAN = 536_870_912
 REGISTER, ELEMENT = 1, 2
@@ -730,8 +731,8 @@ def written_anew(text):
     return b"RDS2" + who_text(Replica(*is_of, None)) + parts_text(*state)
 
 
-# Files: a snapshot, records of changes behind it, and perhaps a torn end.
-# What a file holds, and in bytes how long its snapshot is, where its last whole record ends, and how long it is.
+# Files: a snapshot, the record of its checksum in those that are written now, records of changes, and perhaps a torn end.
+# What a file holds, and in bytes where its snapshot ends, with that record where it has one, and its last whole record, and how long it is.
 File = collections.namedtuple("File", "replica snapshot whole length")
 
 
@@ -742,6 +743,25 @@ def change_text(own, delta, grown=None):
 
 def record(payload):
     return number(len(payload), 4) + hashlib.sha256(payload).digest() + payload
+
+
+def summed(snapshot):
+    """A snapshot, and the record of its checksum."""
+    return snapshot + record(b"\3" + hashlib.sha256(snapshot).digest())
+
+
+def file_text(replica, format=2):
+    """A new file; the program writes format 2."""
+    return summed(snapshot_text(replica, format))
+
+
+def front_end(text, snapshot):
+    """Where the snapshot of so many bytes that begins a file ends, with the record of its checksum where that stands behind it."""
+    payload = record_at(text, snapshot)
+    if payload is None or payload[:1] != b"\3":
+        return snapshot
+    refuse_if(payload[1:] != hashlib.sha256(text[:snapshot]).digest(), 13)
+    return snapshot + SUM
 
 
 def record_at(text, at):
@@ -782,8 +802,9 @@ def with_change(replica, payload):
 
 
 def read_file(text):
-    """What a file holds: its snapshot, and each whole record behind it joined to that."""
-    is_of, state, snapshot = read_front(text)
+    """What a file holds: its snapshot, and each whole record of a change behind it joined to that."""
+    is_of, state, length = read_front(text)
+    snapshot = front_end(text, length)
     replica, at = Replica(*is_of, state_of(*state)), snapshot
     while (payload := record_at(text, at)) is not None:
         try:

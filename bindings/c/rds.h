@@ -218,7 +218,8 @@ uint32_t rds_status_json(rds *replica, uint8_t *room, size_t room_length, size_t
  * updates have the same mark. That others have another isn't promised, since values can be chosen for it. */
 uint32_t rds_mark(rds *replica, uint8_t *room, size_t room_length, size_t *length);
 
-/* Gives the snapshot, which rds_open, rds_merge and `rds_node` read (docs/FORMATS.md). Also RDS_TOO_LONG. */
+/* Gives the bytes of a new file: the snapshot, and 69 bytes with its checksum. rds_open, rds_merge and `rds_node` read
+ * them (docs/FORMATS.md). Also RDS_TOO_LONG. */
 uint32_t rds_snapshot(rds *replica, uint8_t *room, size_t room_length, size_t *length);
 
 /* ---- Meeting ----
@@ -266,10 +267,10 @@ const char *rds_status_text(uint32_t status);
  *
  * The files are those of `rds_node`, and so are the rules. A file is opened under its lock (flock), which is held until
  * rds_close: meanwhile `rds_node` and other programs with this library wait for it or are refused. It is a snapshot,
- * and behind it records of what changed since. Each keep appends a record, or writes a new file beside it (FILE.new),
- * which is synced and renamed: that is where the records would be longer than the snapshot. Where a path is a symbolic
- * link, all that is done to the file that it leads to. A system without these calls has no such files: Windows isn't
- * supported.
+ * its checksum, and behind them records of what changed since. Each keep appends a record, or writes a new file beside
+ * it (FILE.new), which is synced and renamed: that is where the records would be longer than the snapshot. Where a path
+ * is a symbolic link, all that is done to the file that it leads to. A system without these calls has no such files:
+ * Windows isn't supported.
  *
  * A process that forks keeps the lock until the child too has ended or called exec. */
 

@@ -11,8 +11,8 @@
 #include <sys/stat.h>
 #include <unistd.h>
 
-/* The most bytes of a file. */
-#define LIMIT 268435456u
+/* The most bytes of a file: those of the longest snapshot, and of the record of its checksum. */
+#define LIMIT (268435456u + 69u)
 
 /* The most bytes of a record, and how many records of a small file may come to. */
 #define RECORD (36 + 65536)
@@ -24,7 +24,7 @@
 /* Where the parts of a file stand, as the proved library tells it. */
 typedef struct layout {
     uint64_t takes_records; /* 1 where records may follow the snapshot */
-    uint64_t snapshot;      /* where the snapshot ends */
+    uint64_t snapshot;      /* where the snapshot ends, with its checksum where it has one */
     uint64_t whole;         /* where the last whole record ends */
 } layout;
 
@@ -266,7 +266,7 @@ uint32_t rds_open_file(rds_file *file, const uint8_t *path, size_t path_length) 
     return status;
 }
 
-/* Gives the snapshot, in a block of its own. */
+/* Gives the bytes of a new file, in a block of their own. */
 static uint32_t snapshot_of(rds *replica, size_t guess, uint8_t **bytes, size_t *length) {
     size_t room = guess + guess / 8 + 4096;
     uint8_t *made = malloc(room);
@@ -343,7 +343,7 @@ static uint32_t make_sure(held *it) {
     return it->unsure ? RDS_UNSURE : RDS_OK;
 }
 
-/* Puts the replica's snapshot in the place of the file that is held, if any. From the rename on, it is what is held,
+/* Puts a new file of the replica in the place of the one that is held, if any. From the rename on, it is what is held,
  * also where the folder can't be synced (RDS_UNSURE). */
 static uint32_t put(rds *replica, held *it, const struct stat *like) {
     uint8_t *bytes = NULL;

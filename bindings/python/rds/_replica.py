@@ -426,7 +426,7 @@ class Replica:
         return self._gives(None, LIB.rds_mark).decode()
 
     def __bytes__(self) -> bytes:
-        """The snapshot."""
+        """The bytes of a new file: the snapshot, and its checksum."""
         return self._gives_kept(LIB.rds_snapshot)
 
     def _gives_kept(self, call: Any, *arguments: Any) -> bytes:

@@ -1,5 +1,6 @@
 """Replicas in files, and who may have them."""
 import fcntl
+import hashlib
 import os
 import stat
 import subprocess
@@ -28,8 +29,12 @@ def names_in(folder: Path) -> List[str]:
     return sorted(it.name for it in folder.iterdir())
 
 
+def sha256(text: bytes) -> bytes:
+    return hashlib.sha256(text).digest()
+
+
 def held_by(file: Path) -> bytes:
-    """The snapshot of the replica that a file holds."""
+    """A new file of the replica that a file holds."""
     with Replica.from_bytes(file.read_bytes()) as held:
         return bytes(held)
 
@@ -96,6 +101,34 @@ def test_an_end_that_was_torn(file: Path) -> None:
     with pytest.raises(BadText):
         Replica.open(file)
     assert file.read_bytes() == damaged
+
+
+def test_a_changed_byte_of_the_snapshot(file: Path) -> None:
+    """A file begins with its snapshot and the record of its checksum, so that no byte changes unseen."""
+    text = file.read_bytes()
+    front = len(text) - 69
+    assert text[front:] == (33).to_bytes(4, "big") + sha256(b"\3" + sha256(text[:front])) + b"\3" + sha256(text[:front])
+    with Replica.open(file) as shop:
+        shop["b"].set(1)
+        shop.keep()
+    longer = file.read_bytes()
+    for at in range(len(text)):
+        for whole in (text, longer):
+            changed = bytearray(whole)
+            changed[at] ^= 1
+            file.write_bytes(changed)
+            if at >= front and whole is text:
+                # The record of the checksum is none any more: it is a torn end.
+                with Replica.open(file) as shop:
+                    assert list(shop) == ["a"]
+                continue
+            with pytest.raises(BadText):
+                Replica.open(file)
+            assert file.read_bytes() == changed
+    # An older program writes a snapshot alone.
+    file.write_bytes(text[:front] + longer[len(text) :])
+    with Replica.open(file) as shop:
+        assert list(shop) == ["a", "b"]
 
 
 def test_what_goes_to_others_is_kept_first(file: Path) -> None:
@@ -245,7 +278,7 @@ def test_files_that_are_none(tmp_path: Path) -> None:
             Replica.open(tmp_path / "text")
         assert caught.value.given == str(tmp_path / "text")
     with open(tmp_path / "long", "wb") as it:
-        it.truncate(268_435_457)
+        it.truncate(268_435_456 + 69 + 1)
     with pytest.raises(TooLong):
         Replica.open(tmp_path / "long")
 

@@ -1,6 +1,6 @@
 """The library beside the plain model of bench/plain_model.py, which is written from the documents alone.
 
-Random edits and meetings have to leave the same snapshot, question, answer, document and mark, byte by byte.
+Random edits and meetings have to leave the same file, question, answer, document and mark, byte by byte.
 """
 import importlib.util
 import json
@@ -77,7 +77,7 @@ class Both:
         self.plain = plain
 
     def check(self) -> None:
-        assert bytes(self.real) == model.snapshot_text(self.plain)
+        assert bytes(self.real) == model.file_text(self.plain)
         assert self.real.show() == shown(model.document(self.plain.state, ()))
         assert self.real.mark() == model.mark_of(self.plain.state)
 
@@ -101,7 +101,9 @@ class Letter:
 def merge(one: Both, other: Both) -> None:
     lacking = other.plain.state.least(one.plain.state.digest()).size()
     one.plain = model.taken(one.plain, other.plain.state, other.plain.names)
-    assert one.real.merge(bytes(other.real)) == lacking
+    # A snapshot alone is a file of an older program.
+    given = bytes(other.real)[: None if lacking % 2 else -model.SUM]
+    assert one.real.merge(given) == lacking
 
 
 @pytest.mark.parametrize("seed", range(6))

@@ -899,7 +899,14 @@ def test_a_snapshot_that_was_cut(pair: Pair, tmp_path: Path) -> None:
     _, store = pair
     store.grow("north")
     store["k"].set(1)
-    cannot_join(BadText, says(DONE, response(bytes(store)[:-1])), tmp_path)
+    cannot_join(BadText, says(DONE, response(bytes(store)[: -69 - 1])), tmp_path)
+
+
+def test_a_snapshot_of_another_checksum(pair: Pair, tmp_path: Path) -> None:
+    _, store = pair
+    store.grow("north")
+    store["k"].set(1)
+    cannot_join(BadText, says(DONE, response(bytes(store).replace(b"k", b"j", 1))), tmp_path)
 
 
 def test_a_snapshot_without_the_name(pair: Pair, tmp_path: Path) -> None:

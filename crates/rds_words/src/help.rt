@@ -135,14 +135,15 @@ pub const FILES_TEXT: &str = "\
 How files are read and written, and what the words of commands are.
 
 Writing: a command that changes FILE does so under a lock, for which it waits ten
-seconds at most. FILE is a snapshot with records of changes behind it: the command adds
-a record, syncs FILE, and then answers. What changes nothing adds none. Where the change
-has more than 65,536 bytes, or all records would have more than that and more than the
-snapshot, or FILE is of format 1, it writes FILE anew, as 'compact' does: FILE.new is
-made beside it with mode 0600, gets FILE's mode, is written and synced, and then renamed
-to FILE. A record that wasn't written to its end is passed over, and the next one takes
-its place. So FILE holds what it held before a command or what it holds after it, whole.
-What isn't said to change FILE only reads it.
+seconds at most. FILE is a snapshot with its checksum, and records of changes behind it:
+the command adds a record, syncs FILE, and then answers. What changes nothing adds none.
+Where the change has more than 65,536 bytes, or all records would have more than that and
+more than the snapshot, or FILE is of format 1, it writes FILE anew, as 'compact' does:
+FILE.new is made beside it with mode 0600, gets FILE's mode, is written and synced, and
+then renamed to FILE. A record that wasn't written to its end is passed over, and the
+next one takes its place. So FILE holds what it held before a command or what it holds
+after it, whole. What isn't said to change FILE only reads it. Each command compares the
+checksums of what it reads: fault 13 where one differs.
 
 Places: a FILE that is a link is followed, and stays a link. One that has several names
 (hard links), or no write bit, isn't changed: fault 24. One whose name ends in '.new' is
@@ -352,10 +353,11 @@ const COMPACT_EXAMPLE: &str = "\
 Example: rds_node compact notes.a";
 
 const COMPACT_TEXT: &str = "\
-A command that changes FILE adds a record to it. This writes FILE anew as one snapshot,
-which holds the same. Commands do so by themselves where the records get long, so it need
-not be called. It is of use before FILE is copied or kept for long, and where it is read
-often and seldom changed: 'status' tells how many bytes the records have.
+A command that changes FILE adds a record to it. This writes FILE anew as one snapshot
+with its checksum, which holds the same. Commands do so by themselves where the records
+get long, so it need not be called. It is of use before FILE is copied or kept for long,
+where it is read often and seldom changed, and for one that an older program wrote
+without a checksum. 'status' tells how many bytes the records have.
 Output: {\"ok\":true}.";
 
 pub const PAIR_ABOUT: &str = "Has a session between the replicas in two files";
@@ -485,11 +487,12 @@ Example: rds_node status notes.a";
 
 const STATUS_TEXT: &str = "\
 Output: one line, {\"group\":\"notes\",\"own\":\"a\",\"names\":[\"a\",\"b\"],\"live\":1,\"dead\":0,
-\"counters\":0,\"components\":1,\"bytes\":76,\"snapshot\":31,\"records\":96,
+\"counters\":0,\"components\":1,\"bytes\":76,\"snapshot\":100,\"records\":96,
 \"mark\":\"3923e6a85fb4142d3ef808a12ecff18d\"}: the group, the replica's own name and the
 names of all; how many live entries, dots of dead ones and counters there are, and how
-many components in all; how many bytes FILE would have if it were written anew, how many
-its snapshot has, and how many the records behind it have; and the mark of its state.
+many components in all; how many bytes its snapshot would have if FILE were written anew,
+without the 69 of its checksum; how many the snapshot of FILE has, with its checksum, and
+how many the records behind it; and the mark of its state.
 Files that hold the same have the same mark, and others have it by chance alone.";
 
 pub const CHECK_ABOUT: &str =
@@ -534,7 +537,8 @@ const JOIN_EXAMPLE: &str = "\
 Example: rds_node join < two_snapshots";
 
 const JOIN_TEXT: &str = "\
-Input: two lines of hex digits, each a snapshot. The second may lack its newline.
+Input: two lines of hex digits, each a snapshot, without what a file has behind it: its
+checksum and records. The second may lack its newline.
 Output: one line of hex digits, the snapshot of all that the two have seen, with the own
 number of the first and the longer of the two groups' names.
 Faults of its own: 12 or 13 for a line that is no snapshot, 14 where something follows a
