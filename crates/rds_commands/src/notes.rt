@@ -191,10 +191,19 @@ pub fn note_edit<H: Eprint>(rt: &H, file: &str, words: &EditWords<'_>, fault: Fa
         EditWords::Set { path, value }
         | EditWords::Add { path, value }
         | EditWords::Del { path, value } => note_entry(rt, file, path, *value, fault),
-        EditWords::Clear { path } => note_part(rt, file, path, fault),
+        EditWords::Clear { path } => note_clear(rt, file, path, fault),
+        EditWords::ClearAll => note_file(rt, file, fault),
         EditWords::Inc { key, by } | EditWords::Dec { key, by } => {
             note_count(rt, file, key, by, fault);
         }
+    }
+}
+
+// The same of a clear. An empty path may be a variable that isn't set, so it isn't the whole document's.
+fn note_clear<H: Eprint>(rt: &H, file: &str, path: &str, fault: Fault) {
+    note_part(rt, file, path, fault);
+    if let (Fault::BadPath, "") = (fault, path) {
+        let _ = eprintln!(rt; "'clear {file} --all' empties the whole document");
     }
 }
 
@@ -236,10 +245,8 @@ fn note_count<H: Eprint>(rt: &H, file: &str, key: &str, by: &str, fault: Fault) 
 
 /// Tells that a whole document was cleared, and how many entries went.
 pub fn note_cleared<H: Eprint>(rt: &H, words: &EditWords<'_>, answer: &Reply) {
-    if let (EditWords::Clear { path }, Reply::Edited { killed, .. }) = (words, answer) {
-        if path.is_empty() {
-            let _ = eprintln!(rt; "the whole document was cleared: {killed} entries");
-        }
+    if let (EditWords::ClearAll, Reply::Edited { killed, .. }) = (words, answer) {
+        let _ = eprintln!(rt; "the whole document was cleared: {killed} entries");
     }
 }
 
@@ -260,9 +267,12 @@ pub fn note_conflicts<H: Disk>(rt: &H, file: &ReplicaFile<'_, GapSet>, text: &st
     }
 }
 
-/// Tells that words don't go together.
-pub fn note_together<H: Eprint>(rt: &H) {
-    let _ = eprintln!(rt; "these words don't go together: 'rds_node help COMMAND' says which do");
+/// Tells that the words of a command don't go together.
+pub fn note_together<H: Eprint>(rt: &H, command: &str) {
+    let _ = match command {
+        "clear" => eprintln!(rt; "clear takes a PATH, or --all for the whole document"),
+        _ => eprintln!(rt; "these words don't go together: 'rds_node help COMMAND' says which do"),
+    };
 }
 
 /// Tells why words of `serve` are refused.
