@@ -1,6 +1,7 @@
 -- What the words of commands on files mean.
 use Rattle.std.specs.Prelude.{
   ◌≡◌,
+  ◌==◌,
   ◌&&◌,
   ℕ,
   List,
@@ -15,6 +16,7 @@ use Rattle.std.specs.Prelude.{
   IfErr,
   MatchResult,
   if◌then◌else◌,
+  length,
   map,
   nat_le,
 }
@@ -55,8 +57,7 @@ value_in (word.Text value) = scalar_of_text value.now
 
 -- a path in words, which isn't the root's: that is said by `--all`
 abbrev pub part_of : List ℕ → Result (List (List ℕ)) Fault
-part_of [] = Err BadPath
-part_of (b ∷ bs) = path_of (b ∷ bs)
+part_of text = if length text == 0 then Err BadPath else path_of text
 
 -- a whole number of 64 bits, before which a plus may stand
 abbrev pub IsAmount : List ℕ → Result ℕ Fault → Type 0

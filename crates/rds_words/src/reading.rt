@@ -294,12 +294,17 @@ fn clear_of<'a>(file: &'a str, path: Option<&'a str>, all: bool) -> Option<Task<
     ensures { option_map words_of result
         ≡ named_words (codes "clear") (clear_words file.now (option_map (λ p. p.now) path.entry) all) }
 {
-    let edit = match (path, all) {
-        (Some(path), false) => EditWords::Clear { path },
-        (None, true) => EditWords::ClearAll,
-        _ => return None,
-    };
-    Some(Task::Edit { file, edit })
+    match (path, all) {
+        (Some(path), false) => {
+            let edit = EditWords::Clear { path };
+            Some(Task::Edit { file, edit })
+        }
+        (None, true) => {
+            let edit = EditWords::ClearAll;
+            Some(Task::Edit { file, edit })
+        }
+        _ => None,
+    }
 }
 
 // The task of `get`.
