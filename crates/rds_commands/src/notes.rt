@@ -313,18 +313,42 @@ pub fn note_beside<H: Eprint>(rt: &H, path: &str) {
 }
 
 /// Tells why a copy isn't merged into a file.
-pub fn note_merge<H: Eprint>(rt: &H, path: &str, from: &str, fault: Fault) {
+pub fn note_merge<H: Disk>(rt: &H, path: &str, from: &str, fault: Fault) {
     match fault {
         Fault::OwnAhead(_) => {
+            let _ = eprintln!(rt; "{from} has something of {path}'s own that it lacks");
             let _ = eprintln!(rt;
-                "{from} has something of {path}'s own that it lacks: {path} is the older one. Give it its later copy back, before any edit"
+                "{path} is an older copy, or both were edited: keep both files, and see docs/FAULTS.md"
             );
         }
-        Fault::WrongGroup | Fault::WrongRoster | Fault::Conflict { .. } => {
+        Fault::Conflict { replica, seq } => note_conflict(rt, path, from, replica, seq),
+        Fault::WrongGroup | Fault::WrongRoster => {
             let _ = eprintln!(rt; "{path} and {from}: {fault}");
         }
         _ => note_files(rt, path, from, fault),
     }
+}
+
+// Tells which replica's dot has two entries: by its name, where the file still tells that.
+fn note_conflict<H: Disk>(rt: &H, path: &str, from: &str, replica: u8, seq: u64) {
+    let _ = match name_in(rt, path, replica) {
+        Some(name) => {
+            let name = name.as_str();
+            eprintln!(rt;
+                "{path} and {from}: Conflict: the dot {seq} of replica '{name}' has two entries"
+            )
+        }
+        None => {
+            let fault = Fault::Conflict { replica, seq };
+            eprintln!(rt; "{path} and {from}: {fault}")
+        }
+    };
+}
+
+// The name of a replica of the group of the file's.
+fn name_in<H: Disk>(rt: &H, path: &str, number: u8) -> Option<Name> {
+    let file: ReplicaFile<'_, GapSet> = ReplicaFile::open(rt, path).ok()?;
+    file.kept().view_of().roster().name_of(number)
 }
 
 /// Tells that several kinds stand at a path.
