@@ -199,6 +199,16 @@ pub fn note_edit<H: Eprint>(rt: &H, file: &str, words: &EditWords<'_>, fault: Fa
     }
 }
 
+/// The same of an edit that is made only where it changes something, which a site doesn't do.
+pub fn note_edit_if_changed<H: Eprint>(rt: &H, file: &str, words: &EditWords<'_>, fault: Fault) {
+    match fault {
+        Fault::Device if is_site(file) => {
+            let _ = eprintln!(rt; "{file}: --if-changed is for files alone");
+        }
+        _ => note_edit(rt, file, words, fault),
+    }
+}
+
 // The same of a clear. An empty path may be a variable that isn't set, so it isn't the whole document's.
 fn note_clear<H: Eprint>(rt: &H, file: &str, path: &str, fault: Fault) {
     note_part(rt, file, path, fault);
@@ -282,6 +292,15 @@ pub fn note_serve<H: Eprint>(rt: &H, words: &ServeWords<'_>) {
         let _ = eprintln!(rt; "--sessions '{sessions}' is no whole number; 0 is no end");
     } else {
         note_timeout(rt, words.file, words.timeout);
+    }
+}
+
+/// Tells that an address has no port, as where a file's path stands in its place.
+pub fn note_no_port<H: Eprint>(rt: &H, addr: &str) {
+    if !addr.contains(':') {
+        let _ = eprintln!(rt;
+            "'{addr}' is no HOST:PORT, as 127.0.0.1:4000 is; two files meet by 'pair'"
+        );
     }
 }
 
