@@ -212,7 +212,7 @@ pub fn note_edit_if_changed<H: Eprint>(rt: &H, file: &str, words: &EditWords<'_>
 // The same of a clear. An empty path may be a variable that isn't set, so it isn't the whole document's.
 fn note_clear<H: Eprint>(rt: &H, file: &str, path: &str, fault: Fault) {
     note_part(rt, file, path, fault);
-    if let (Fault::BadPath, "") = (fault, path) {
+    if path.is_empty() && matches!(fault, Fault::BadPath) {
         let _ = eprintln!(rt; "'clear {file} --all' empties the whole document");
     }
 }
