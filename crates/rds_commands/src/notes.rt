@@ -304,6 +304,20 @@ pub fn note_no_port<H: Eprint>(rt: &H, addr: &str) {
     }
 }
 
+/// Tells what it means that a site has something of the file's own that the file lacks.
+pub fn note_visit<H: Eprint>(rt: &H, path: &str, fault: Option<Fault>) {
+    if let Some(Fault::OwnAhead(_)) = fault {
+        note_older(rt, path);
+    }
+}
+
+// Tells that a file lacks something of its own, and what is to be done.
+fn note_older<H: Eprint>(rt: &H, path: &str) {
+    let _ = eprintln!(rt;
+        "{path} is an older copy, or both were edited: keep both files, and see docs/FAULTS.md"
+    );
+}
+
 /// Tells why words of `sync` are refused.
 pub fn note_sync<H: Eprint>(rt: &H, words: &SyncWords<'_>) {
     if words.token_file.is_some() && !is_site(words.addr) {
@@ -336,9 +350,7 @@ pub fn note_merge<H: Disk>(rt: &H, path: &str, from: &str, fault: Fault) {
     match fault {
         Fault::OwnAhead(_) => {
             let _ = eprintln!(rt; "{from} has something of {path}'s own that it lacks");
-            let _ = eprintln!(rt;
-                "{path} is an older copy, or both were edited: keep both files, and see docs/FAULTS.md"
-            );
+            note_older(rt, path);
         }
         Fault::Conflict { replica, seq } => note_conflict(rt, path, from, replica, seq),
         Fault::WrongGroup | Fault::WrongRoster => {
