@@ -281,6 +281,7 @@ fn word_and_place<'a>(words: &EditWords<'a>) -> (&'static str, &'a str) {
         EditWords::Add { path, .. } => ("add", path),
         EditWords::Del { path, .. } => ("del", path),
         EditWords::Clear { path } => ("clear", path),
+        EditWords::ClearAll => ("clear", ""),
         EditWords::Inc { key, .. } => ("inc", key),
         EditWords::Dec { key, .. } => ("dec", key),
     }

@@ -28,6 +28,7 @@ ghost use Rattle.rds_commands.specs.Edits.{
 ghost use Rattle.rds_output.specs.declared.reply.Reply.TheVariants.{Done};
 ghost use Rattle.rds_words.specs.Meaning.{IsCommand, names_for, roster_for};
 
+use crate::visits::is_site;
 use rds_dots::DotSet;
 use rds_files::{CreatedFile, Disk, LockFile, LockedFile, ReplacedFile, ReplicaFile};
 use rds_gaps::GapSet;
@@ -197,7 +198,7 @@ where
 }
 
 /// Edits the replica in a file as `edit_file` does, unless what the edit says stands there already: then the file is
-/// left as it is, and none is answered.
+/// left as it is, and none is answered. An address of a site is no file's path (`Device`).
 pub fn edit_if_changed<'a, H: Disk>(
     rt: &H,
     path: &'a str,
@@ -210,6 +211,9 @@ where
 {
     let alloc = rt.alloc();
     let command = command_of(alloc, words)?;
+    if is_site(path) {
+        return Err(Fault::Device);
+    }
     let opened: LockedFile<'a, H, GapSet> = LockedFile::open(rt, path)?;
     let same = stands(alloc, opened.kept().view_of().state(), &command)?;
     if same {

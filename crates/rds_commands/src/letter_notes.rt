@@ -49,8 +49,9 @@ pub fn note_take<H: Disk>(rt: &H, path: &str, question: &[u8], answer: &[u8], fa
 
 /// Tells that what a file took told a fork, and what is to be done.
 pub fn note_fork<H: Eprint>(rt: &H, path: &str) {
+    let _ = eprintln!(rt; "{path} and who answered hold different entries of one replica");
     let _ = eprintln!(rt;
-        "{path} and who answered hold different entries of one replica: give each place one of another name ('grow')"
+        "edit neither; let ONE file grow by a new name for each place, make replicas from it: docs/FAULTS.md, 'A copy'"
     );
 }
 

@@ -191,10 +191,29 @@ pub fn note_edit<H: Eprint>(rt: &H, file: &str, words: &EditWords<'_>, fault: Fa
         EditWords::Set { path, value }
         | EditWords::Add { path, value }
         | EditWords::Del { path, value } => note_entry(rt, file, path, *value, fault),
-        EditWords::Clear { path } => note_part(rt, file, path, fault),
+        EditWords::Clear { path } => note_clear(rt, file, path, fault),
+        EditWords::ClearAll => note_file(rt, file, fault),
         EditWords::Inc { key, by } | EditWords::Dec { key, by } => {
             note_count(rt, file, key, by, fault);
         }
+    }
+}
+
+/// The same of an edit that is made only where it changes something, which a site doesn't do.
+pub fn note_edit_if_changed<H: Eprint>(rt: &H, file: &str, words: &EditWords<'_>, fault: Fault) {
+    match fault {
+        Fault::Device if is_site(file) => {
+            let _ = eprintln!(rt; "{file}: --if-changed is for files alone");
+        }
+        _ => note_edit(rt, file, words, fault),
+    }
+}
+
+// The same of a clear. An empty path may be a variable that isn't set, so it isn't the whole document's.
+fn note_clear<H: Eprint>(rt: &H, file: &str, path: &str, fault: Fault) {
+    note_part(rt, file, path, fault);
+    if path.is_empty() && matches!(fault, Fault::BadPath) {
+        let _ = eprintln!(rt; "'clear {file} --all' empties the whole document");
     }
 }
 
@@ -236,10 +255,8 @@ fn note_count<H: Eprint>(rt: &H, file: &str, key: &str, by: &str, fault: Fault) 
 
 /// Tells that a whole document was cleared, and how many entries went.
 pub fn note_cleared<H: Eprint>(rt: &H, words: &EditWords<'_>, answer: &Reply) {
-    if let (EditWords::Clear { path }, Reply::Edited { killed, .. }) = (words, answer) {
-        if path.is_empty() {
-            let _ = eprintln!(rt; "the whole document was cleared: {killed} entries");
-        }
+    if let (EditWords::ClearAll, Reply::Edited { killed, .. }) = (words, answer) {
+        let _ = eprintln!(rt; "the whole document was cleared: {killed} entries");
     }
 }
 
@@ -260,9 +277,12 @@ pub fn note_conflicts<H: Disk>(rt: &H, file: &ReplicaFile<'_, GapSet>, text: &st
     }
 }
 
-/// Tells that words don't go together.
-pub fn note_together<H: Eprint>(rt: &H) {
-    let _ = eprintln!(rt; "these words don't go together: 'rds_node help COMMAND' says which do");
+/// Tells that the words of a command don't go together.
+pub fn note_together<H: Eprint>(rt: &H, command: &str) {
+    let _ = match command {
+        "clear" => eprintln!(rt; "clear takes a PATH, or --all for the whole document"),
+        _ => eprintln!(rt; "these words don't go together: 'rds_node help COMMAND' says which do"),
+    };
 }
 
 /// Tells why words of `serve` are refused.
@@ -273,6 +293,29 @@ pub fn note_serve<H: Eprint>(rt: &H, words: &ServeWords<'_>) {
     } else {
         note_timeout(rt, words.file, words.timeout);
     }
+}
+
+/// Tells that an address has no port, as where a file's path stands in its place.
+pub fn note_no_port<H: Eprint>(rt: &H, addr: &str) {
+    if !addr.contains(':') {
+        let _ = eprintln!(rt;
+            "'{addr}' is no HOST:PORT, as 127.0.0.1:4000 is; two files meet by 'pair'"
+        );
+    }
+}
+
+/// Tells what it means that a site has something of the file's own that the file lacks.
+pub fn note_visit<H: Eprint>(rt: &H, path: &str, fault: Option<Fault>) {
+    if let Some(Fault::OwnAhead(_)) = fault {
+        note_older(rt, path);
+    }
+}
+
+// Tells that a file lacks something of its own, and what is to be done.
+fn note_older<H: Eprint>(rt: &H, path: &str) {
+    let _ = eprintln!(rt;
+        "{path} is an older copy, or both were edited: keep both files, and see docs/FAULTS.md"
+    );
 }
 
 /// Tells why words of `sync` are refused.
@@ -303,18 +346,40 @@ pub fn note_beside<H: Eprint>(rt: &H, path: &str) {
 }
 
 /// Tells why a copy isn't merged into a file.
-pub fn note_merge<H: Eprint>(rt: &H, path: &str, from: &str, fault: Fault) {
+pub fn note_merge<H: Disk>(rt: &H, path: &str, from: &str, fault: Fault) {
     match fault {
         Fault::OwnAhead(_) => {
-            let _ = eprintln!(rt;
-                "{from} has something of {path}'s own that it lacks: {path} is the older one. Give it its later copy back, before any edit"
-            );
+            let _ = eprintln!(rt; "{from} has something of {path}'s own that it lacks");
+            note_older(rt, path);
         }
-        Fault::WrongGroup | Fault::WrongRoster | Fault::Conflict { .. } => {
+        Fault::Conflict { replica, seq } => note_conflict(rt, path, from, replica, seq),
+        Fault::WrongGroup | Fault::WrongRoster => {
             let _ = eprintln!(rt; "{path} and {from}: {fault}");
         }
         _ => note_files(rt, path, from, fault),
     }
+}
+
+// Tells which replica's dot has two entries: by its name, where the file still tells that.
+fn note_conflict<H: Disk>(rt: &H, path: &str, from: &str, replica: u8, seq: u64) {
+    let _ = match name_in(rt, path, replica) {
+        Some(name) => {
+            let name = name.as_str();
+            eprintln!(rt;
+                "{path} and {from}: Conflict: the dot {seq} of replica '{name}' has two entries"
+            )
+        }
+        None => {
+            let fault = Fault::Conflict { replica, seq };
+            eprintln!(rt; "{path} and {from}: {fault}")
+        }
+    };
+}
+
+// The name of a replica of the group of the file's.
+fn name_in<H: Disk>(rt: &H, path: &str, number: u8) -> Option<Name> {
+    let file: ReplicaFile<'_, GapSet> = ReplicaFile::open(rt, path).ok()?;
+    file.kept().view_of().roster().name_of(number)
 }
 
 /// Tells that several kinds stand at a path.

@@ -21,6 +21,7 @@ use crate::site::RunSite;
 use crate::telling::{
     run_compact, run_edit, run_edit_if_changed, run_grow, run_init, run_show, run_text,
 };
+use crate::tips::command_in;
 use crate::unparsed::write_unparsed;
 use rds_files::{Disk, LockFile};
 use rds_keep::Counted;
@@ -69,7 +70,7 @@ where
     match task_of(rt.alloc(), words) {
         Ok(Some(task)) => run_task(rt, task, site, reader, writer),
         Ok(None) => {
-            note_together(rt);
+            note_together(rt, command_in(words));
             write_fault(writer, Fault::Usage)
         }
         Err(error) => write_unparsed(rt, words, writer, &error),

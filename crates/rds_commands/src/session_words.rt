@@ -20,7 +20,7 @@ ghost use Rattle.rds_session.specs.declared.talk.Side.TheVariants.{Client, Serve
 ghost use Rattle.rds_session.specs.declared.version.Version.TheVariants.{Five};
 ghost use Rattle.rds_output.specs.Output.{Writes};
 
-use crate::notes::{note_beside, note_serve, note_sync};
+use crate::notes::{note_beside, note_no_port, note_serve, note_sync, note_visit};
 use crate::offline::status_for;
 use crate::site::RunSite;
 use crate::visits::{is_site, write_visit};
@@ -152,6 +152,7 @@ fn sync_site<H: Disk, W: Write, T: RunSite<H>>(
     match seconds_of(&words) {
         Some(seconds) => {
             let visit = site.sync_site(rt, words, timeout_of(seconds));
+            note_visit(rt, words.file, visit.fault);
             write_visit(writer, visit)
         }
         None => {
@@ -172,7 +173,10 @@ where
     ensures broken { (writer.new.failed ≡ writer.old.failed) ⊎ (result ≡ 1) }
 {
     match seconds_of(&words) {
-        Some(seconds) => sync_file(rt, words.file, words.addr, timeout_of(seconds), writer),
+        Some(seconds) => {
+            note_no_port(rt, words.addr);
+            sync_file(rt, words.file, words.addr, timeout_of(seconds), writer)
+        }
         None => {
             note_sync(rt, &words);
             write_fault(writer, Fault::Usage)

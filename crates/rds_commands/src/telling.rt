@@ -18,7 +18,8 @@ use crate::file_commands::{
     compact_file, edit_file, edit_if_changed, grow_file, init_file, show_file,
 };
 use crate::notes::{
-    note_cleared, note_edit, note_file, note_grow, note_grown, note_init, note_part, note_unwritten,
+    note_cleared, note_edit, note_edit_if_changed, note_file, note_grow, note_grown, note_init,
+    note_part, note_unwritten,
 };
 use crate::outcome::told;
 use crate::site::{RunSite, SiteRequest};
@@ -161,7 +162,11 @@ where
 {
     let done = edit_if_changed(rt, path, words);
     let changed = matches!(&done, Ok(done) if done.file.is_some());
-    let status = told(done, writer, |fault| note_edit(rt, path, words, fault));
+    let status = told(
+        done,
+        writer,
+        |fault| note_edit_if_changed(rt, path, words, fault),
+    );
     note_unwritten(rt, path, changed, status);
     status
 }

@@ -60,7 +60,7 @@ pub fn give_up<W: Write>(writer: &mut Counted<W>, fault: Fault) -> u8
 pub fn note_settled<H: Eprint>(rt: &H, path: &str, settled: &Settled) {
     if let Settled::Refused(fault) | Settled::Unkept(fault) = settled {
         let _ = eprintln!(rt; "{path}: what was received isn't kept: {fault}");
-        note_apart(rt, *fault);
+        note_why(rt, *fault);
     }
 }
 
@@ -70,7 +70,7 @@ pub fn note_report<H: Eprint>(rt: &H, path: &str, settled: &Settled, ended: Ende
     note_settled(rt, path, settled);
     if let Ended::Failed(fault) = ended {
         let _ = eprintln!(rt; "{path}: the session failed: {fault}");
-        note_apart(rt, fault);
+        note_why(rt, fault);
     }
 }
 
@@ -101,17 +101,33 @@ pub fn note_peer<H: Eprint, T: OpenStream>(rt: &H, stream: &T, ended: Ended) {
             Ok(addr) => eprintln!(rt; "peer {addr}: {fault}"),
             Err(_) => eprintln!(rt; "peer: {fault}"),
         };
-        note_apart(rt, fault);
+        note_why(rt, fault);
     }
 }
 
-// Tells what it means that neither of two rosters begins the other.
-fn note_apart<H: Eprint>(rt: &H, fault: Fault) {
-    if let Fault::WrongRoster = fault {
-        let _ = eprintln!(rt;
-            "the two rosters have grown apart: a group's roster is to be grown at one place"
-        );
+// Tells what a fault means of which people have to do something.
+fn note_why<H: Eprint>(rt: &H, fault: Fault) {
+    match fault {
+        Fault::OwnAhead(_) => {
+            let _ = eprintln!(rt;
+                "the file is an older copy, or both were edited: keep both files, and see docs/FAULTS.md"
+            );
+        }
+        Fault::WrongRoster => {
+            let _ = eprintln!(rt;
+                "the two rosters have grown apart: a group's roster is to be grown at one place"
+            );
+        }
+        Fault::Forked => note_forked(rt),
+        _ => (),
     }
+}
+
+/// Tells on standard error what is to be done where two replicas are forked.
+pub fn note_forked<H: Eprint>(rt: &H) {
+    let _ = eprintln!(rt;
+        "edit neither; let ONE file grow by a new name for each place, make replicas from it: docs/FAULTS.md, 'A copy'"
+    );
 }
 
 /// Whether a fault's line is among them.

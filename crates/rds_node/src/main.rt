@@ -1,6 +1,7 @@
 //! A node of a document store: replicas of one document that are edited apart and joined.
 #![tactic(auto)]
 
+mod output;
 mod process;
 mod sites;
 

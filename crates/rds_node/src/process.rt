@@ -9,6 +9,7 @@ ghost use Rattle.rds_words.specs.Commands.{join_words, sim_words};
 ghost use Rattle.rds_words.specs.Entered.{Names, mistakes_in, named_in};
 ghost use Rattle.rds_commands.specs.Told.{MayWriteNamed, RunsSim, TellsMistake};
 
+use crate::output::Output;
 use crate::sites::Sites;
 use rds_commands::{RunSite, run};
 use rds_files::{Disk, LockFile};
@@ -20,7 +21,7 @@ use std::env::{Env, FillError};
 use std::io::{ErrorKind, Read, Write};
 use std::net::Net;
 use std::process::ExitCode;
-use std::{env, io, str};
+use std::{env, str};
 
 /// The longest word of which is told that it is no text.
 const SHOWN: usize = 4096;
@@ -30,7 +31,7 @@ pub fn run_process(rt: &HostRuntime) -> ExitCode
     ensures status { exit_status result ≤ 3 }
 {
     let mut reader = counted(rt.reader());
-    let mut writer = counted(io::writer(rt));
+    let mut writer = counted(Output::new(rt));
     match words(rt) {
         Ok(words) => run_words(rt, Ok(words.as_slice()), &Sites, &mut reader, &mut writer),
         Err(fault) => run_words::<_, _, _, String, _>(

@@ -5,7 +5,7 @@ use Rattle.std.specs.Borrow.{Bor}
 use Rattle.clap.specs.Words.{Text, built}
 use Rattle.rds_words.specs.declared.tasks.Task.{Task}
 use Rattle.rds_words.specs.declared.tasks.Task.TheVariants.{Join, Sim, Files, Faults, Init, InitFrom, Grow, Edit, EditIfChanged, EditLines, Get, GetRaw, Show, ShowPretty, Dump, Compact, Status, Serve, Run, Sync, Pair, Ask, Answer, Take, Merge, Check, Conflicts, Diff}
-use Rattle.rds_words.specs.declared.tasks.EditWords.TheVariants.{Set, Add, Del, Clear, Inc, Dec}
+use Rattle.rds_words.specs.declared.tasks.EditWords.TheVariants.{Set, Add, Del, Clear, ClearAll, Inc, Dec}
 use Rattle.rds_words.specs.declared.tasks.ValueWord.TheVariants as word
 use Rattle.rds_words.specs.Commands.{node_app}
 use Rattle.rds_words.specs.Entered.{Names}
@@ -16,7 +16,7 @@ use Rattle.rds_words.proofs.CommandWords.{node_on_words}
 use Rattle.rds_words.proofs.Dashed.{Meets, undashed_fault, undashed_rows}
 use Rattle.rds_words.proofs.GrowNamed.{grow_dashed, grow_met}
 use Rattle.rds_words.proofs.OptionPlans.{add_takes, set_takes}
-use Rattle.rds_words.proofs.OptionsNamed.{changed_named, del_text_named, get_counter_named, get_raw_named, get_reg_named, get_set_named, init_dashed, init_from_named, pretty_named, run_dashed, run_named, serve_named, sync_named, text_changed_named, text_named}
+use Rattle.rds_words.proofs.OptionsNamed.{all_cleared, changed_named, del_text_named, get_counter_named, get_raw_named, get_reg_named, get_set_named, init_dashed, init_from_named, pretty_named, run_dashed, run_named, serve_named, sync_named, text_changed_named, text_named}
 use Rattle.rds_words.specs.declared.tasks.RawKind.TheVariants as kind
 
 -- words that are data need no dashes
@@ -124,9 +124,9 @@ pub show_root_dashed : (name file : Text) → Names (name ∷ codes "show" ∷ c
 unfolding node_on_words
 show_root_dashed name file = (refl, refl)
 
-pub clear_root_dashed : (name file : Text) → Names (name ∷ codes "clear" ∷ codes "--" ∷ file ∷ []) (codes "clear" ∷ file ∷ [] ∷ [])
+all_cleared_dashed : (name file : Text) → Names (name ∷ codes "clear" ∷ codes "--all" ∷ codes "--" ∷ file ∷ []) (codes "clear" ∷ file ∷ [] ∷ codes "--all" ∷ [])
 unfolding node_on_words
-clear_root_dashed name file = (refl, refl)
+all_cleared_dashed name file = (refl, refl)
 
 pub dump_dashed : (name file path : Text) → Names (name ∷ codes "dump" ∷ codes "--" ∷ file ∷ path ∷ []) (codes "dump" ∷ file ∷ path ∷ [])
 unfolding node_on_words
@@ -366,6 +366,7 @@ task_dashed name (EditIfChanged file (Add path (word.Json value))) has = add_cha
 task_dashed name (EditIfChanged file (Add path (word.Text value))) has = add_text_changed_dashed name file.now path.now value.now
 task_dashed name (EditIfChanged file (Del path value)) has = absurd has
 task_dashed name (EditIfChanged file (Clear path)) has = absurd has
+task_dashed name (EditIfChanged file ClearAll) has = absurd has
 task_dashed name (EditIfChanged file (Inc key by)) has = absurd has
 task_dashed name (EditIfChanged file (Dec key by)) has = absurd has
 task_dashed name (GetRaw file path kind.Any) has = get_raw_dashed name file.now path.now
@@ -377,6 +378,7 @@ task_dashed name (Edit file (Set path (word.Json value))) has = set_dashed name 
 task_dashed name (Edit file (Add path (word.Json value))) has = add_dashed name file.now path.now value.now
 task_dashed name (Edit file (Del path (word.Json value))) has = del_dashed name file.now path.now value.now
 task_dashed name (Edit file (Clear path)) has = clear_dashed name file.now path.now
+task_dashed name (Edit file ClearAll) has = all_cleared_dashed name file.now
 task_dashed name (Edit file (Inc key by)) has = inc_dashed name file.now key.now by.now
 task_dashed name (Edit file (Dec key by)) has = dec_dashed name file.now key.now by.now
 task_dashed name (EditLines file) has = edit_lines_dashed name file.now
@@ -415,6 +417,7 @@ task_written name (EditIfChanged file (Add path (word.Json value))) is = changed
 task_written name (EditIfChanged file (Add path (word.Text value))) is = text_changed_named (codes "add") add_takes name file.now path.now value.now is.1
 task_written name (EditIfChanged file (Del path value)) is = absurd is.0
 task_written name (EditIfChanged file (Clear path)) is = absurd is.0
+task_written name (EditIfChanged file ClearAll) is = absurd is.0
 task_written name (EditIfChanged file (Inc key by)) is = absurd is.0
 task_written name (EditIfChanged file (Dec key by)) is = absurd is.0
 task_written name (GetRaw file path kind.Any) is = get_raw_named name file.now path.now is.1
@@ -427,6 +430,7 @@ task_written name (Edit file (Set path (word.Json value))) is = undashed name (c
 task_written name (Edit file (Add path (word.Json value))) is = undashed name (codes "add") (file.now ∷ path.now ∷ value.now ∷ []) _ add_met is.1 (add_dashed name file.now path.now value.now)
 task_written name (Edit file (Del path (word.Json value))) is = undashed name (codes "del") (file.now ∷ path.now ∷ value.now ∷ []) _ del_met is.1 (del_dashed name file.now path.now value.now)
 task_written name (Edit file (Clear path)) is = undashed name (codes "clear") (file.now ∷ path.now ∷ []) _ clear_met is.1 (clear_dashed name file.now path.now)
+task_written name (Edit file ClearAll) is = all_cleared name file.now is.1
 task_written name (Edit file (Inc key by)) is = undashed name (codes "inc") (file.now ∷ key.now ∷ by.now ∷ []) _ inc_met is.1 (inc_dashed name file.now key.now by.now)
 task_written name (Edit file (Dec key by)) is = undashed name (codes "dec") (file.now ∷ key.now ∷ by.now ∷ []) _ dec_met is.1 (dec_dashed name file.now key.now by.now)
 task_written name (EditLines file) is = undashed name (codes "edit") (file.now ∷ []) _ edit_lines_met is.1 (edit_lines_dashed name file.now)
@@ -452,9 +456,6 @@ task_written name (Diff file other) is = undashed name (codes "diff") (file.now 
 
 pub root_shown : (name file : Text) → AreData (file ∷ []) → Names (name ∷ codes "show" ∷ file ∷ []) (codes "show" ∷ file ∷ [] ∷ [])
 root_shown name file are = undashed name (codes "show") (file ∷ []) _ show_met are (show_root_dashed name file)
-
-pub root_cleared : (name file : Text) → AreData (file ∷ []) → Names (name ∷ codes "clear" ∷ file ∷ []) (codes "clear" ∷ file ∷ [] ∷ [])
-root_cleared name file are = undashed name (codes "clear") (file ∷ []) _ clear_met are (clear_root_dashed name file)
 
 pub once_served : (name file addr : Text) → AreData (file ∷ addr ∷ []) → Names (name ∷ codes "serve" ∷ file ∷ addr ∷ []) (codes "serve" ∷ file ∷ addr ∷ codes "1" ∷ codes "60" ∷ [])
 once_served name file addr are = undashed name (codes "serve") (file ∷ addr ∷ []) _ serve_met are (once_dashed name file addr)

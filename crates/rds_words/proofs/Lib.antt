@@ -1,4 +1,5 @@
 pub mod Behind
+pub mod ClearPlan
 pub mod CommandWords
 pub mod Counting
 pub mod Dashed

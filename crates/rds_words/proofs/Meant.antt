@@ -7,6 +7,7 @@ use Rattle.clap.specs.Words.{Text}
 use Rattle.rds_words.specs.Entered.{Names, mistakes_in}
 use Rattle.rds_words.specs.Spelling.{AreSpelled, AreWordsOf, Count, IsCounted, OtherCommandsAreRefused, OtherWordsAreRefused, OtherWordsWithoutOptions, WordsMeanTheirSpelling, WordsWithoutOptions, counts, option_counts}
 use Rattle.rds_words.specs.WithOptions.{MeansWithOptions, OptionsMeanTheirSpelling, with_options}
+use Rattle.rds_words.proofs.ClearPlan.{clear_plan, clear_takes}
 use Rattle.rds_words.proofs.Counting.{refused_isnt}
 use Rattle.rds_words.proofs.OptionCommands as options
 use Rattle.rds_words.proofs.OtherCommands.{command_or_not}
@@ -89,37 +90,34 @@ each_plain : Each IsPlain counts
 each_plain = (
   plain.grow_plain,
   (
-    plain.clear_plain,
+    plain.inc_plain,
     (
-      plain.inc_plain,
+      plain.dec_plain,
       (
-        plain.dec_plain,
+        plain.edit_lines_plain,
         (
-          plain.edit_lines_plain,
+          plain.dump_plain,
           (
-            plain.dump_plain,
+            plain.compact_plain,
             (
-              plain.compact_plain,
+              plain.pair_plain,
               (
-                plain.pair_plain,
+                plain.ask_plain,
                 (
-                  plain.ask_plain,
+                  plain.answer_plain,
                   (
-                    plain.answer_plain,
+                    plain.take_plain,
                     (
-                      plain.take_plain,
+                      plain.merge_plain,
                       (
-                        plain.merge_plain,
+                        plain.status_plain,
                         (
-                          plain.status_plain,
+                          plain.check_plain,
                           (
-                            plain.check_plain,
+                            plain.conflicts_plain,
                             (
-                              plain.conflicts_plain,
-                              (
-                                plain.diff_plain,
-                                (plain.join_plain, (plain.sim_plain, (plain.files_plain, (plain.faults_plain, tt)))),
-                              ),
+                              plain.diff_plain,
+                              (plain.join_plain, (plain.sim_plain, (plain.files_plain, (plain.faults_plain, tt)))),
                             ),
                           ),
                         ),
@@ -140,7 +138,7 @@ each_known : Each IsKnown option_counts
 each_known = (known _ _ _ plans.set_is options.set_counted, (known _ _ _ plans.add_is options.add_counted, (known _ _ _ plans.del_is options.del_counted, (known _ _ _ plans.get_is options.get_counted, (known _ _ _ plans.show_is options.show_counted, (known _ _ _ plans.sync_is options.sync_counted, (known _ _ _ plans.serve_is options.serve_counted, (known _ _ _ plans.run_is options.run_counted, tt))))))))
 
 each_with_options : Each MeansWithOptions with_options
-each_with_options = (means plans.init_plan plans.init_takes, (means plans.set_plan plans.set_takes, (means plans.add_plan plans.add_takes, (means plans.del_plan plans.del_takes, (means plans.get_plan plans.get_takes, (means plans.show_plan plans.show_takes, (means plans.sync_plan plans.sync_takes, (means plans.serve_plan plans.serve_takes, (means plans.run_plan plans.run_takes, tt)))))))))
+each_with_options = (means plans.init_plan plans.init_takes, (means plans.set_plan plans.set_takes, (means plans.add_plan plans.add_takes, (means plans.del_plan plans.del_takes, (means clear_plan clear_takes, (means plans.get_plan plans.get_takes, (means plans.show_plan plans.show_takes, (means plans.sync_plan plans.sync_takes, (means plans.serve_plan plans.serve_takes, (means plans.run_plan plans.run_takes, tt))))))))))
 
 -- ---- the laws
 

@@ -4,7 +4,7 @@ use Rattle.clap.specs.Words.{Text}
 use Rattle.rds_words.specs.Task.{EditsByLines, words_of}
 use Rattle.rds_words.specs.declared.tasks.Task.{Task}
 use Rattle.rds_words.specs.declared.tasks.Task.TheVariants.{Join, Sim, Files, Faults, Init, InitFrom, Grow, Edit, EditIfChanged, EditLines, Get, GetRaw, Show, ShowPretty, Dump, Compact, Status, Serve, Run, Sync, Pair, Ask, Answer, Take, Merge, Check, Conflicts, Diff}
-use Rattle.rds_words.specs.declared.tasks.EditWords.TheVariants.{Set, Add, Del, Clear, Inc, Dec}
+use Rattle.rds_words.specs.declared.tasks.EditWords.TheVariants.{Set, Add, Del, Clear, ClearAll, Inc, Dec}
 
 -- the first byte of the command's name
 abbrev first_byte : List Text → ℕ
@@ -24,12 +24,14 @@ told (Edit file (Set path value)) = (λ e. absurd cc, λ e. absurd cc, λ at e. 
 told (Edit file (Add path value)) = (λ e. absurd cc, λ e. absurd cc, λ at e. absurd cc)
 told (Edit file (Del path value)) = (λ e. absurd cc, λ e. absurd cc, λ at e. absurd cc)
 told (Edit file (Clear path)) = (λ e. absurd cc, λ e. absurd cc, λ at e. absurd cc)
+told (Edit file ClearAll) = (λ e. absurd cc, λ e. absurd cc, λ at e. absurd cc)
 told (Edit file (Inc key by)) = (λ e. absurd cc, λ e. absurd cc, λ at e. absurd cc)
 told (Edit file (Dec key by)) = (λ e. absurd cc, λ e. absurd cc, λ at e. absurd cc)
 told (EditIfChanged file (Set path value)) = (λ e. absurd cc, λ e. absurd cc, λ at e. absurd cc)
 told (EditIfChanged file (Add path value)) = (λ e. absurd cc, λ e. absurd cc, λ at e. absurd cc)
 told (EditIfChanged file (Del path value)) = (λ e. absurd cc, λ e. absurd cc, λ at e. absurd cc)
 told (EditIfChanged file (Clear path)) = (λ e. absurd cc, λ e. absurd cc, λ at e. absurd cc)
+told (EditIfChanged file ClearAll) = (λ e. absurd cc, λ e. absurd cc, λ at e. absurd cc)
 told (EditIfChanged file (Inc key by)) = (λ e. absurd cc, λ e. absurd cc, λ at e. absurd cc)
 told (EditIfChanged file (Dec key by)) = (λ e. absurd cc, λ e. absurd cc, λ at e. absurd cc)
 told (EditLines file) = (λ e. absurd cc, λ e. absurd cc, λ at e. (file, cc, refl))

@@ -9,7 +9,7 @@ use Rattle.rds_state.specs.declared.command.Command.TheVariants as commands
 use Rattle.rds_names.specs.AndThen.{◌>>=◌}
 use Rattle.rds_words.specs.Meaning.{IsAmount, IsCommand}
 use Rattle.rds_words.specs.declared.tasks.EditWords.{EditWords}
-use Rattle.rds_words.specs.declared.tasks.EditWords.TheVariants.{Set, Add, Del, Clear, Inc, Dec}
+use Rattle.rds_words.specs.declared.tasks.EditWords.TheVariants.{Set, Add, Del, Clear, ClearAll, Inc, Dec}
 
 pub amount_once : (text : List ℕ) (r s : Result ℕ Fault) → IsAmount text r → IsAmount text s → r ≡ s
 amount_once text (Ok m) (Ok n) h k = ap Ok (h.0.1 ∙ sym k.0.1)
@@ -29,6 +29,7 @@ command_once (Set path value) r s h k = h ∙ sym k
 command_once (Add path value) r s h k = h ∙ sym k
 command_once (Del path value) r s h k = h ∙ sym k
 command_once (Clear path) r s h k = h ∙ sym k
+command_once ClearAll r s h k = h ∙ sym k
 command_once (Inc key by) r s h k = count_once commands.Inc by.now r s (key_of key.now) h k
 command_once (Dec key by) r s h k = count_once commands.Dec by.now r s (key_of key.now) h k
 

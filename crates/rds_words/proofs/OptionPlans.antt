@@ -73,23 +73,23 @@ abbrev joined : List (Option Text) → Option (List Text)
 joined [] = Some []
 joined (w ∷ ws) = option_and_then (λ word. option_map (λ words. word ∷ words) (joined ws)) w
 
-abbrev Chosen : List Known → Type 0
+abbrev pub Chosen : List Known → Type 0
 Chosen known = (o : Known) × IsIn o known
 
 -- whether more names are waited for or nothing
-at_both : (P : Waiting → Type 0) → P positional → P idle → (b : Bool) → P (free b)
+pub at_both : (P : Waiting → Type 0) → P positional → P idle → (b : Bool) → P (free b)
 at_both P more nothing true = more
 at_both P more nothing false = nothing
 
 -- each word that is an option is one of the known ones or is refused
-told_by : (s : Shape) (known : List Known) → ((name : Text) → ((o : Chosen known) × (name ≡ o.0.bare)) ⊎ IsRequest s (arg_by_long s.rules name)) → HasShortRequests s
+pub told_by : (s : Shape) (known : List Known) → ((name : Text) → ((o : Chosen known) × (name ≡ o.0.bare)) ⊎ IsRequest s (arg_by_long s.rules name)) → HasShortRequests s
     → (word : Text) → IsOption word → ((o : Known) × IsIn o known × IsThis (name_of o) word) ⊎ IsAlwaysRefused s word
 told_by s known long short word is = elim (told s (Chosen known) (λ o. o.0.bare) long short word is) [
   | inl this ↦ inl (this.0.0, this.0.1, this.1)
   | inr refused ↦ inr refused
 ]
 
-short_by : (s : Shape) → ((character : ℕ) → EachOther s (λ a. has_short a character) ⊥ s.rules) → HasShortRequests s
+pub short_by : (s : Shape) → ((character : ℕ) → EachOther s (λ a. has_short a character) ⊥ s.rules) → HasShortRequests s
 short_by s each character = elim (found_other s (λ a. has_short a character) ⊥ s.rules (each character)) [
   | inl none ↦ absurd none
   | inr is ↦ is

@@ -11,6 +11,7 @@ use Rattle.rds_words.specs.Raw.{access_words, log_words, peer_words, token_words
 use Rattle.rds_words.specs.Typed.{AreAllowed, AreTyped, AtMostOne, HaveOptionsOf, IsRest, Options, Part, typed_flag, typed_option, typed_word, values_among, words_among}
 use Rattle.rds_words.specs.WithOptions.{is_there}
 use Rattle.rds_words.specs.Written.{AreData, is_data}
+use Rattle.rds_words.proofs.ClearPlan.{clear_plan, clear_takes}
 use Rattle.rds_words.proofs.OptionPlans.{del_plan, del_takes, entry_plan, get_plan, get_takes, init_plan, init_takes, run_plan, run_takes, serve_plan, serve_takes, show_plan, show_takes, sync_plan, sync_takes}
 use Rattle.rds_words.proofs.PlanMeant.{means}
 use Rattle.rds_words.proofs.PlanWalk.{Plan, Takes}
@@ -74,6 +75,18 @@ pub del_text_named : (name file path value : Text) → AreData (file ∷ path �
 del_text_named name file path value are =
     typed_names del_plan del_takes name (codes "--text" ∷ file ∷ path ∷ value ∷ []) (file ∷ path ∷ value ∷ codes "--text" ∷ []) (typed_flag (codes "--text") ∷ typed_word file ∷ typed_word path ∷ typed_word value ∷ [])
     (file ∷ path ∷ value ∷ [], refl, (path ∷ value ∷ [], refl, (and_left (is_data file) _ are), (value ∷ [], refl, (and_left (is_data path) _ (and_right (is_data file) _ are)), ([], refl, (and_left (is_data value) _ (and_right (is_data path) _ (and_right (is_data file) _ are))), refl))))
+    (refl, tt) (tt, tt) refl refl
+
+pub all_cleared : (name file : Text) → AreData (file ∷ []) → Names (name ∷ codes "clear" ∷ codes "--all" ∷ file ∷ []) (codes "clear" ∷ file ∷ [] ∷ codes "--all" ∷ [])
+all_cleared name file are =
+    typed_names clear_plan clear_takes name (codes "--all" ∷ file ∷ []) (file ∷ [] ∷ codes "--all" ∷ []) (typed_flag (codes "--all") ∷ typed_word file ∷ [])
+    (file ∷ [], refl, ([], refl, (and_left (is_data file) _ are), refl))
+    (refl, tt) (tt, tt) refl refl
+
+pub all_cleared_behind : (name file : Text) → AreData (file ∷ []) → Names (name ∷ codes "clear" ∷ file ∷ codes "--all" ∷ []) (codes "clear" ∷ file ∷ [] ∷ codes "--all" ∷ [])
+all_cleared_behind name file are =
+    typed_names clear_plan clear_takes name (file ∷ codes "--all" ∷ []) (file ∷ [] ∷ codes "--all" ∷ []) (typed_word file ∷ typed_flag (codes "--all") ∷ [])
+    (codes "--all" ∷ [], refl, (and_left (is_data file) _ are), ([], refl, refl))
     (refl, tt) (tt, tt) refl refl
 
 pub get_raw_named : (name file path : Text) → AreData (file ∷ path ∷ []) → Names (name ∷ codes "get" ∷ codes "--raw" ∷ file ∷ path ∷ []) (codes "get" ∷ file ∷ path ∷ codes "--raw" ∷ [])

@@ -2,7 +2,7 @@
 use Rattle.std.proofs.Common.{codes, refl, inl, inr}
 use Rattle.rds_words.specs.Spelling.{at_least, exactly, or_root}
 use Rattle.rds_words.proofs.CommandWords.{node_on_words}
-use Rattle.rds_words.proofs.EachNamed.{answer_dashed, answer_met, ask_dashed, ask_met, check_dashed, check_met, clear_dashed, clear_met, clear_root_dashed, compact_dashed, compact_met, conflicts_dashed, conflicts_met, conflicts_root_dashed, dec_dashed, dec_met, diff_dashed, diff_met, dump_dashed, dump_met, dump_root_dashed, edit_lines_dashed, edit_lines_met, faults_dashed, faults_met, files_dashed, files_met, inc_dashed, inc_met, join_dashed, join_met, merge_dashed, merge_met, pair_dashed, pair_met, sim_dashed, sim_met, status_dashed, status_met, take_dashed, take_met}
+use Rattle.rds_words.proofs.EachNamed.{answer_dashed, answer_met, ask_dashed, ask_met, check_dashed, check_met, compact_dashed, compact_met, conflicts_dashed, conflicts_met, conflicts_root_dashed, dec_dashed, dec_met, diff_dashed, diff_met, dump_dashed, dump_met, dump_root_dashed, edit_lines_dashed, edit_lines_met, faults_dashed, faults_met, files_dashed, files_met, inc_dashed, inc_met, join_dashed, join_met, merge_dashed, merge_met, pair_dashed, pair_met, sim_dashed, sim_met, status_dashed, status_met, take_dashed, take_met}
 use Rattle.rds_words.proofs.GrowNamed.{grow_dashed, grow_met}
 use Rattle.rds_words.proofs.PlainForms.{IsPlain, no_words, one_word, part, some_names, three_words, two_words}
 use Rattle.rds_words.proofs.Refusing.{IsRefused}
@@ -12,12 +12,6 @@ unfolding IsRefused node_on_words
 grow_plain =
     some_names (codes "grow") grow_met refl refl (inl refl, (inl refl, (inr (refl, λ rows. tt), tt)))
     (λ a b more called. grow_dashed called a b more) tt (λ a. tt)
-
-pub clear_plain : IsPlain (codes "clear") (or_root 2)
-unfolding IsRefused node_on_words
-clear_plain =
-    part (codes "clear") clear_met refl refl (inl refl, (inl refl, (inr (refl, λ rows. tt), tt)))
-    (λ a b called. clear_dashed called a b) (λ a called. clear_root_dashed called a) tt (λ a b c more. tt)
 
 pub inc_plain : IsPlain (codes "inc") (exactly 3)
 unfolding IsRefused node_on_words

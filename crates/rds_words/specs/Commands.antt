@@ -115,6 +115,10 @@ raw_rules =
     flag_rule (codes "RAW") (codes "raw") ∷ flag_rule (codes "REG") (codes "reg")
     ∷ flag_rule (codes "SET") (codes "set") ∷ flag_rule (codes "COUNTER") (codes "counter") ∷ []
 
+-- whether it is the whole document
+abbrev pub all_rule : Rule
+all_rule = flag_rule (codes "ALL") (codes "all")
+
 -- whether JSON is indented
 abbrev pub pretty_rule : Rule
 pretty_rule = flag_rule (codes "PRETTY") (codes "pretty")
@@ -141,7 +145,7 @@ commands =
     ∷ command_app (codes "set") (file_rule ∷ path_rule ∷ value_rule ∷ text_rule ∷ if_changed_rule ∷ [])
     ∷ command_app (codes "add") (file_rule ∷ path_rule ∷ value_rule ∷ text_rule ∷ if_changed_rule ∷ [])
     ∷ command_app (codes "del") (file_rule ∷ path_rule ∷ value_rule ∷ text_rule ∷ [])
-    ∷ command_app (codes "clear") (file_rule ∷ part_rule ∷ [])
+    ∷ command_app (codes "clear") (file_rule ∷ part_rule ∷ all_rule ∷ [])
     ∷ command_app (codes "inc") (file_rule ∷ key_rule ∷ by_rule ∷ [])
     ∷ command_app (codes "dec") (file_rule ∷ key_rule ∷ by_rule ∷ [])
     ∷ command_app (codes "edit") (file_rule ∷ [])

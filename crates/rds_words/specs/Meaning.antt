@@ -1,6 +1,7 @@
 -- What the words of commands on files mean.
 use Rattle.std.specs.Prelude.{
   ◌≡◌,
+  ◌==◌,
   ◌&&◌,
   ℕ,
   List,
@@ -15,6 +16,7 @@ use Rattle.std.specs.Prelude.{
   IfErr,
   MatchResult,
   if◌then◌else◌,
+  length,
   map,
   nat_le,
 }
@@ -22,7 +24,7 @@ use Rattle.std.specs.Str.Parse.{ParsesUnsigned}
 use Rattle.serde_json.specs.Data.{Data}
 use Rattle.serde_json.specs.Read.{read}
 use Rattle.rds_names.specs.declared.fault.Fault.{Fault}
-use Rattle.rds_names.specs.declared.fault.Fault.TheVariants.{BadLine, Usage}
+use Rattle.rds_names.specs.declared.fault.Fault.TheVariants.{BadLine, BadPath, Usage}
 use Rattle.rds_names.specs.declared.scalar.Scalar.{Scalar}
 use Rattle.rds_names.specs.Key.{key_of}
 use Rattle.rds_names.specs.Name.{name_of}
@@ -34,7 +36,7 @@ use Rattle.rds_state.specs.declared.command.Command.TheVariants as commands
 use Rattle.rds_names.specs.AndThen.{◌>>=◌}
 use Rattle.rds_json.specs.Scalar.{scalar_of}
 use Rattle.rds_words.specs.declared.tasks.EditWords.{EditWords}
-use Rattle.rds_words.specs.declared.tasks.EditWords.TheVariants.{Set, Add, Del, Clear, Inc, Dec}
+use Rattle.rds_words.specs.declared.tasks.EditWords.TheVariants.{Set, Add, Del, Clear, ClearAll, Inc, Dec}
 use Rattle.rds_words.specs.declared.tasks.GrowWords.{GrowWords}
 use Rattle.rds_words.specs.declared.tasks.InitWords.{InitWords}
 use Rattle.rds_words.specs.declared.tasks.ValueWord.{ValueWord}
@@ -52,6 +54,10 @@ value_of text = value_from (read text)
 abbrev pub value_in : ValueWord → Result Scalar Fault
 value_in (word.Json value) = value_of value.now
 value_in (word.Text value) = scalar_of_text value.now
+
+-- a path in words, which isn't the root's: that is said by `--all`
+abbrev pub part_of : List ℕ → Result (List (List ℕ)) Fault
+part_of text = if length text == 0 then Err BadPath else path_of text
 
 -- a whole number of 64 bits, before which a plus may stand
 abbrev pub IsAmount : List ℕ → Result ℕ Fault → Type 0
@@ -75,7 +81,8 @@ abbrev pub IsCommand : EditWords → Result Command Fault → Type 0
 IsCommand (Set path value) r = r ≡ (path_of path.now >>= λ p. value_in value >>= λ v. Ok (commands.Set p v))
 IsCommand (Add path value) r = r ≡ (path_of path.now >>= λ p. value_in value >>= λ v. Ok (commands.Add p v))
 IsCommand (Del path value) r = r ≡ (path_of path.now >>= λ p. value_in value >>= λ v. Ok (commands.Del p v))
-IsCommand (Clear path) r = r ≡ (path_of path.now >>= λ p. Ok (commands.Clear p))
+IsCommand (Clear path) r = r ≡ (part_of path.now >>= λ p. Ok (commands.Clear p))
+IsCommand ClearAll r = r ≡ Ok (commands.Clear [])
 IsCommand (Inc key by) r = IsCount commands.Inc key.now by.now r
 IsCommand (Dec key by) r = IsCount commands.Dec key.now by.now r
 

@@ -27,6 +27,14 @@ init_words (file ∷ own ∷ []) (Some from) = Some (file ∷ own ∷ (codes "--
 init_words (file ∷ []) (Some from) = None
 init_words [] (Some from) = None
 
+-- the words of `clear`: a file and a path; or, where `--all` says that it is the whole document, a file alone, behind
+-- which the root's empty path stands
+abbrev pub clear_words : Text → Option Text → Bool → Option (List Text)
+clear_words file (Some path) false = Some (file ∷ path ∷ [])
+clear_words file None true = Some (file ∷ [] ∷ codes "--all" ∷ [])
+clear_words file (Some path) true = None
+clear_words file None false = None
+
 -- the peers that a site meets
 abbrev pub peer_words : List Text → List Text
 peer_words peers = map (λ peer. codes "--peer=" ++ peer) peers

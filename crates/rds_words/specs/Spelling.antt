@@ -54,7 +54,6 @@ IsCounted (before n left_out) given words = (length given ≡ n) × (words ≡ g
 abbrev pub counts : List (Text × Count)
 counts =
     (codes "grow", at_least 2)
-    ∷ (codes "clear", or_root 2)
     ∷ (codes "inc", exactly 3)
     ∷ (codes "dec", exactly 3)
     ∷ (codes "edit", exactly 1)
@@ -75,7 +74,7 @@ counts =
     ∷ (codes "faults", exactly 0)
     ∷ []
 
--- the commands that have options but `init`, each with how many words where no option is given
+-- the commands that have options but `init` and `clear`, each with how many words where no option is given
 abbrev pub option_counts : List (Text × Count)
 option_counts =
     (codes "set", exactly 3)

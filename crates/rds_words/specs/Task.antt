@@ -54,12 +54,21 @@ use Rattle.rds_words.specs.declared.tasks.Task.TheVariants.{
   Diff,
 }
 use Rattle.rds_words.specs.declared.tasks.EditWords.{EditWords}
-use Rattle.rds_words.specs.declared.tasks.EditWords.TheVariants.{Set, Add, Del, Clear, Inc, Dec}
+use Rattle.rds_words.specs.declared.tasks.EditWords.TheVariants.{Set, Add, Del, Clear, ClearAll, Inc, Dec}
 use Rattle.rds_words.specs.declared.tasks.RawKind.{RawKind}
 use Rattle.rds_words.specs.declared.tasks.RawKind.TheVariants as kind
 use Rattle.rds_words.specs.declared.tasks.ValueWord.{ValueWord}
 use Rattle.rds_words.specs.declared.tasks.ValueWord.TheVariants as word
-use Rattle.rds_words.specs.Raw.{access_words, changed_words, init_words, log_words, peer_words, raw_words, token_words}
+use Rattle.rds_words.specs.Raw.{
+  access_words,
+  changed_words,
+  clear_words,
+  init_words,
+  log_words,
+  peer_words,
+  raw_words,
+  token_words,
+}
 
 -- a value in words
 abbrev pub value_words : ValueWord → List Text
@@ -84,6 +93,7 @@ edit_words file (Set path value) = codes "set" ∷ file ∷ path.now ∷ value_w
 edit_words file (Add path value) = codes "add" ∷ file ∷ path.now ∷ value_words value
 edit_words file (Del path value) = codes "del" ∷ file ∷ path.now ∷ value_words value
 edit_words file (Clear path) = codes "clear" ∷ file ∷ path.now ∷ []
+edit_words file ClearAll = codes "clear" ∷ file ∷ [] ∷ codes "--all" ∷ []
 edit_words file (Inc key by) = codes "inc" ∷ file ∷ key.now ∷ by.now ∷ []
 edit_words file (Dec key by) = codes "dec" ∷ file ∷ key.now ∷ by.now ∷ []
 
@@ -159,6 +169,12 @@ entry_words_in rows =
 abbrev pub changed_words_in : List Row → Option (List Text)
 changed_words_in rows = option_map (changed_words (is_given (codes "IF_CHANGED") rows)) (entry_words_in rows)
 
+-- a file, and a path or the whole document
+abbrev pub clear_words_in : List Row → Option (List Text)
+clear_words_in rows =
+    option_and_then (λ file. clear_words file (first_of (codes "PATH") rows) (is_given (codes "ALL") rows))
+    (first_of (codes "FILE") rows)
+
 -- which values are printed, where they stand alone
 abbrev pub raw_words_in : List Row → Option (List Text)
 raw_words_in rows =
@@ -216,7 +232,7 @@ edit_words_behind name rows =
     if bytes_eq name (codes "set") then changed_words_in rows
     else (if bytes_eq name (codes "add") then changed_words_in rows
     else (if bytes_eq name (codes "del") then entry_words_in rows
-    else (if bytes_eq name (codes "clear") then file_and_path rows
+    else (if bytes_eq name (codes "clear") then clear_words_in rows
     else (if bytes_eq name (codes "inc") then counter_words_in rows
     else (if bytes_eq name (codes "dec") then counter_words_in rows
     else None)))))

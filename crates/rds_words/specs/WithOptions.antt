@@ -17,6 +17,7 @@ use Rattle.std.specs.Prelude.{
   find,
   length,
   nat_le,
+  option_and_then,
   option_map,
   if◌then◌else◌,
   slice_get,
@@ -24,7 +25,16 @@ use Rattle.std.specs.Prelude.{
 use Rattle.std.specs.Str.{bytes_eq}
 use Rattle.clap.specs.Words.{Text}
 use Rattle.rds_words.specs.Entered.{mistakes_in, named_in}
-use Rattle.rds_words.specs.Raw.{access_words, changed_words, init_words, log_words, peer_words, raw_words, token_words}
+use Rattle.rds_words.specs.Raw.{
+  access_words,
+  changed_words,
+  clear_words,
+  init_words,
+  log_words,
+  peer_words,
+  raw_words,
+  token_words,
+}
 use Rattle.rds_words.specs.Typed.{IsTyped, Options, many_values, no_value, one_value}
 
 -- a command's options, which numbers of words it takes, and the words of the task that its words and its options' values
@@ -108,6 +118,15 @@ del_with = record {
   words_for = λ given values. Some (given ++ flag_words (codes "--text") values);
 }
 
+abbrev pub clear_with : WithOptions
+clear_with = record {
+  options = (codes "--all", no_value) ∷ [];
+  takes = λ n. n == 1 || n == 2;
+  words_for = λ given values.
+      option_and_then (λ file. clear_words file (slice_get given 1) (is_there (values (codes "--all"))))
+      (slice_get given 0);
+}
+
 abbrev pub get_with : WithOptions
 get_with = record {
   options =
@@ -134,6 +153,7 @@ with_options =
     ∷ (codes "set", entry_with)
     ∷ (codes "add", entry_with)
     ∷ (codes "del", del_with)
+    ∷ (codes "clear", clear_with)
     ∷ (codes "get", get_with)
     ∷ (codes "show", show_with)
     ∷ (codes "sync", sync_with)

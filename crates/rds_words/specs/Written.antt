@@ -35,7 +35,7 @@ use Rattle.rds_words.specs.declared.tasks.Task.TheVariants.{
   Sync,
 }
 use Rattle.rds_words.specs.declared.tasks.EditWords.{EditWords}
-use Rattle.rds_words.specs.declared.tasks.EditWords.TheVariants.{Set, Add, Del, Clear, Inc, Dec}
+use Rattle.rds_words.specs.declared.tasks.EditWords.TheVariants.{Set, Add, Del, Clear, ClearAll, Inc, Dec}
 use Rattle.rds_words.specs.declared.tasks.ValueWord.{ValueWord}
 use Rattle.rds_words.specs.declared.tasks.ValueWord.TheVariants as word
 use Rattle.rds_words.specs.Raw.{access_words, log_words, peer_words, token_words}
@@ -64,6 +64,7 @@ edit_given file (Set path value) = file ∷ path.now ∷ value_text value ∷ []
 edit_given file (Add path value) = file ∷ path.now ∷ value_text value ∷ []
 edit_given file (Del path value) = file ∷ path.now ∷ value_text value ∷ []
 edit_given file (Clear path) = file ∷ path.now ∷ []
+edit_given file ClearAll = file ∷ []
 edit_given file (Inc key by) = file ∷ key.now ∷ by.now ∷ []
 edit_given file (Dec key by) = file ∷ key.now ∷ by.now ∷ []
 
@@ -73,6 +74,7 @@ edit_front flags (Set path value) = codes "set" ∷ (flags ++ value_flags value)
 edit_front flags (Add path value) = codes "add" ∷ (flags ++ value_flags value)
 edit_front flags (Del path value) = codes "del" ∷ (flags ++ value_flags value)
 edit_front flags (Clear path) = codes "clear" ∷ flags
+edit_front flags ClearAll = codes "clear" ∷ (flags ++ codes "--all" ∷ [])
 edit_front flags (Inc key by) = codes "inc" ∷ flags
 edit_front flags (Dec key by) = codes "dec" ∷ flags
 

@@ -272,12 +272,14 @@ Faults of its own: 3 and 4 for a bad PATH, 25 and 5 for a bad VALUE.";
 pub const CLEAR_ABOUT: &str = "Empties a part of the replica in a file";
 
 const CLEAR_EXAMPLE: &str = "\
-Example: rds_node clear notes.a shopping";
+Example: rds_node clear notes.a shopping
+         rds_node clear notes.a --all";
 
 const CLEAR_TEXT: &str = "\
-Takes away each entry at PATH or below it; with no PATH all entries, and no counter.
+Takes away each entry at PATH or below it; with --all, which takes no PATH, those of the
+whole document. Counters stay.
 Output: {\"dot\":null,\"killed\":2}, with the number of entries taken away.
-Faults of its own: 3 and 4 for a bad PATH.";
+Faults of its own: 3 and 4 for a bad PATH, as an empty one.";
 
 pub const INC_ABOUT: &str = "Raises a counter of the replica in a file";
 
@@ -587,6 +589,8 @@ pub const VALUE_HELP: &str = "null, true, false, a whole number or a text, as JS
 pub const TEXT_HELP: &str = "VALUE is the text itself, not JSON";
 
 pub const IF_CHANGED_HELP: &str = "Writes nothing where the value stands there already";
+
+pub const ALL_HELP: &str = "Empties the whole document; there is no PATH then";
 
 pub const KEY_HELP: &str = "The counter's key: 1 to 64 bytes without '/'";
 

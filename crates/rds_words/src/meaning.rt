@@ -2,7 +2,16 @@
 ghost use Rattle.std.specs.Prelude.{◌≡◌, ◌<◌, ◌⊎◌, Ok, Err, IfOk, length, map, MatchResult};
 ghost use Rattle.rds_names.specs.declared.fault.Fault.TheVariants.{Memory};
 ghost use Rattle.rds_json.specs.MayGive.{MayGive};
-ghost use Rattle.rds_words.specs.Meaning.{IsAmount, IsCommand, IsInterval, names_in, roster_in, value_in, value_of};
+ghost use Rattle.rds_words.specs.Meaning.{
+  IsAmount,
+  IsCommand,
+  IsInterval,
+  names_in,
+  part_of,
+  roster_in,
+  value_in,
+  value_of,
+};
 
 use crate::tasks::{EditWords, ValueWord};
 use rds_json::scalar;
@@ -14,9 +23,9 @@ use std::alloc::Global;
 // The most seconds between two meetings with peers.
 const LONGEST_INTERVAL: u32 = 86_400;
 
-/// The edit that words ask for. They are judged from left to right: a path's `BadPath` or `BadKey`,
-/// a value's `BadLine` where it is no JSON and `BadScalar` where it is no value, a key's `BadKey`, and `Usage` for an
-/// amount that is no whole number of 64 bits. Want of memory may come at any point.
+/// The edit that words ask for. They are judged from left to right: a path's `BadPath`, which the empty one of a clear
+/// has too, or `BadKey`, a value's `BadLine` where it is no JSON and `BadScalar` where it is no value, a key's `BadKey`,
+/// and `Usage` for an amount that is no whole number of 64 bits. Want of memory may come at any point.
 pub fn command_of(alloc: Global, words: &EditWords<'_>) -> Result<Command, Fault>
     ensures { (result ≡ Err Memory) ⊎ IsCommand words.now result }
 {
@@ -33,7 +42,8 @@ pub fn command_of(alloc: Global, words: &EditWords<'_>) -> Result<Command, Fault
             let path = Path::new(alloc, path)?;
             Ok(Command::Del(path, value_in(alloc, value)?))
         }
-        EditWords::Clear { path } => Ok(Command::Clear(Path::new(alloc, path)?)),
+        EditWords::Clear { path } => Ok(Command::Clear(part_of(alloc, path)?)),
+        EditWords::ClearAll => Ok(Command::Clear(Path::new(alloc, "")?)),
         EditWords::Inc { key, by } => {
             let key = Key::new(alloc, key)?;
             Ok(Command::Inc(key, amount_of(by)?))
@@ -43,6 +53,16 @@ pub fn command_of(alloc: Global, words: &EditWords<'_>) -> Result<Command, Fault
             Ok(Command::Dec(key, amount_of(by)?))
         }
     }
+}
+
+// A path but the root's.
+fn part_of(alloc: Global, text: &str) -> Result<Path, Fault>
+    ensures { MayGive result (part_of text.now) }
+{
+    if text.is_empty() {
+        return Err(Fault::BadPath);
+    }
+    Path::new(alloc, text)
 }
 
 /// The roster of a group, and the number of one of its replicas. The words are judged from left to

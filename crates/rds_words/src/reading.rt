@@ -1,9 +1,10 @@
 //! From what the library found to the task.
 ghost use Rattle.std.specs.Prelude.{◌≡◌, [], ◌∷◌, codes, map, None, option_map, Some, unwrap_or, IfOk};
 ghost use Rattle.clap.specs.Words.{all_of, first_of, found_of, rows_of, subcommand_rows_of};
-ghost use Rattle.rds_words.specs.Raw.{raw_words};
+ghost use Rattle.rds_words.specs.Raw.{clear_words, raw_words};
 ghost use Rattle.rds_words.specs.Task.{
   changed_words_in,
+  clear_words_in,
   delta_words_behind,
   edit_words_behind,
   entry_words_in,
@@ -221,11 +222,7 @@ fn edit_task<'a>(name: &str, inner: &ArgMatches<'a>) -> Option<Task<'a>>
             let edit = EditWords::Del { path, value };
             Some(Task::Edit { file, edit })
         }
-        "clear" => {
-            let (file, path) = file_and_path(inner)?;
-            let edit = EditWords::Clear { path };
-            Some(Task::Edit { file, edit })
-        }
+        "clear" => clear_task(inner),
         "inc" => {
             let (file, key, by) = file_and_two(inner, "KEY", "BY")?;
             let edit = EditWords::Inc { key, by };
@@ -278,6 +275,35 @@ fn add_task<'a>(inner: &ArgMatches<'a>) -> Option<Task<'a>>
         Some(Task::EditIfChanged { file, edit })
     } else {
         Some(Task::Edit { file, edit })
+    }
+}
+
+// The task of `clear`.
+fn clear_task<'a>(inner: &ArgMatches<'a>) -> Option<Task<'a>>
+    ensures { option_map words_of result
+        ≡ named_words (codes "clear") (clear_words_in (rows_of (found_of inner.now))) }
+{
+    let file = word_under(inner, "FILE")?;
+    let path = word_under(inner, "PATH");
+    let all = is_given(inner, "ALL");
+    clear_of(file, path, all)
+}
+
+// Either a path or the whole document.
+fn clear_of<'a>(file: &'a str, path: Option<&'a str>, all: bool) -> Option<Task<'a>>
+    ensures { option_map words_of result
+        ≡ named_words (codes "clear") (clear_words file.now (option_map (λ p. p.now) path.entry) all) }
+{
+    match (path, all) {
+        (Some(path), false) => {
+            let edit = EditWords::Clear { path };
+            Some(Task::Edit { file, edit })
+        }
+        (None, true) => {
+            let edit = EditWords::ClearAll;
+            Some(Task::Edit { file, edit })
+        }
+        _ => None,
     }
 }
 

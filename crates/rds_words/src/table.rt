@@ -102,7 +102,7 @@ const PATH: Word = Word {
     kind: Kind::Required,
 };
 
-const PATH_OR_ROOT: Word = Word {
+const OPTIONAL_PATH: Word = Word {
     id: "PATH",
     help: help::PATH_HELP,
     kind: Kind::Optional,
@@ -285,6 +285,12 @@ const COUNTER: Word = Word {
     kind: Kind::Flag { long: "counter" },
 };
 
+const ALL: Word = Word {
+    id: "ALL",
+    help: help::ALL_HELP,
+    kind: Kind::Flag { long: "all" },
+};
+
 const PEER: Word = Word {
     id: "PEER",
     help: help::PEER_HELP,
@@ -328,7 +334,7 @@ pub static COMMANDS: [Described; 29] = [
         name: "clear",
         about: help::CLEAR_ABOUT,
         page: Page::Clear,
-        words: &[FILE, PATH_OR_ROOT],
+        words: &[FILE, OPTIONAL_PATH, ALL],
     },
     Described {
         name: "inc",
@@ -358,13 +364,13 @@ pub static COMMANDS: [Described; 29] = [
         name: "show",
         about: help::SHOW_ABOUT,
         page: Page::Show,
-        words: &[FILE, PATH_OR_ROOT, PRETTY],
+        words: &[FILE, OPTIONAL_PATH, PRETTY],
     },
     Described {
         name: "dump",
         about: help::DUMP_ABOUT,
         page: Page::Dump,
-        words: &[FILE, PATH_OR_ROOT],
+        words: &[FILE, OPTIONAL_PATH],
     },
     Described {
         name: "compact",
@@ -436,7 +442,7 @@ pub static COMMANDS: [Described; 29] = [
         name: "conflicts",
         about: help::CONFLICTS_ABOUT,
         page: Page::Conflicts,
-        words: &[FILE, PATH_OR_ROOT],
+        words: &[FILE, OPTIONAL_PATH],
     },
     Described {
         name: "diff",

@@ -283,9 +283,11 @@ pub enum EditWords<'a> {
     },
     /// Takes away all entries at a path and below it.
     Clear {
-        /// The path, empty for the root.
+        /// The path, which isn't empty.
         path: &'a str,
     },
+    /// Takes away all entries.
+    ClearAll,
     /// Raises a counter.
     Inc {
         /// The counter's key.

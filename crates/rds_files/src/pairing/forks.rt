@@ -5,6 +5,7 @@ ghost use Rattle.rds_names.specs.declared.fault.Fault.TheVariants.{Device};
 ghost use Rattle.rds_keep.specs.Counted.{one_more};
 ghost use Rattle.rds_files.specs.Forks.{AreForked, EndForked, fork_text};
 
+use crate::reports::note_forked;
 use crate::settling::Settlement;
 use rds_dots::DotSet;
 use rds_keep::Counted;
@@ -49,8 +50,7 @@ pub fn write_fork<W: Write>(writer: &mut Counted<W>, told: bool) -> Result<(), F
 /// Tells on standard error that two files are forked, if they are, and what is to be done.
 pub fn note_fork<H: Eprint>(rt: &H, first: &str, second: &str, told: bool) {
     if told {
-        let _ = eprintln!(rt;
-            "{first} and {second} hold different entries of one replica: give each place one of another name ('grow')"
-        );
+        let _ = eprintln!(rt; "{first} and {second} hold different entries of one replica");
+        note_forked(rt);
     }
 }

@@ -1,10 +1,14 @@
-use Rattle.std.proofs.Common.{◌∙◌, refl}
+use Rattle.std.proofs.Common.{◌∙◌, inl, inr, refl}
 use Rattle.std.proofs.lemmas.Result.{err_from_is_err_and}
-use Rattle.rds_names.specs.declared.fault.Fault.TheVariants.{Memory}
+use Rattle.rds_names.specs.declared.fault.Fault.TheVariants.{Device, Memory}
 use Rattle.rds_commands.proofs.Refused.{no_edit, no_replica}
 use Rattle.rds_commands.proofs.Told.{not_refused}
 use Rattle.rds_commands.proofs.Values.{stands_in}
 use Rattle.rds_commands.proofs.file_commands.edit_if_changed.Goals as goal
+
+pub returns-then-is_site-clause-fault : goal.returns-then-is_site-clause-fault
+returns-then-is_site-clause-fault g c =
+    no_replica c.args.path.now c.args.words.now c.in_ok-command.command c.in_ok-command.ensures Device (inr (inl refl))
 
 pub returns-in_err-opened-clause-fault : goal.returns-in_err-opened-clause-fault
 returns-in_err-opened-clause-fault g c =

@@ -1,5 +1,5 @@
-use Rattle.rds_words.proofs.EachNamed.{once_served, pretty_root_dashed, root_cleared, root_shown, run_alone, run_alone_dashed, sessions_alone_dashed, sync_alone, sync_alone_dashed, task_dashed, task_written, timeout_alone_dashed}
-use Rattle.rds_words.proofs.OptionsNamed.{pretty_behind, pretty_root, pretty_root_behind, run_every_alone, run_log_alone, run_open_alone, run_peer_alone, run_token_alone, sessions_alone, sync_token_alone, timeout_alone}
+use Rattle.rds_words.proofs.EachNamed.{once_served, pretty_root_dashed, root_shown, run_alone, run_alone_dashed, sessions_alone_dashed, sync_alone, sync_alone_dashed, task_dashed, task_written, timeout_alone_dashed}
+use Rattle.rds_words.proofs.OptionsNamed.{all_cleared_behind, pretty_behind, pretty_root, pretty_root_behind, run_every_alone, run_log_alone, run_open_alone, run_peer_alone, run_token_alone, sessions_alone, sync_token_alone, timeout_alone}
 use Rattle.rds_words.proofs.laws.word_laws.Goals as goal
 
 pub returns-clause-written : goal.returns-clause-written
@@ -8,8 +8,8 @@ returns-clause-written c = task_written
 pub returns-clause-dashed : goal.returns-clause-dashed
 returns-clause-dashed c = task_dashed
 
-pub returns-clause-root_cleared : goal.returns-clause-root_cleared
-returns-clause-root_cleared c = root_cleared
+pub returns-clause-all_cleared : goal.returns-clause-all_cleared
+returns-clause-all_cleared c = all_cleared_behind
 
 pub returns-clause-show : goal.returns-clause-show
 returns-clause-show c = record {
