@@ -135,6 +135,11 @@ module _ (read : Reader Snapshot) (same : (bytes : List ℕ) → read bytes ≡ 
       whole : leads.hashed ++ latest ≡ text ++ behind
       whole = sym leads.parts ∙ (leading_is read front mid now s count behind hasher latest same leads).0
 
+      not_cut : snapshot_in_at leads.hashed ≡ Err Cut → leads.hashed ≡ text ++ drop (length text) leads.hashed → ⊥
+      not_cut cut is =
+          let found = ap snapshot_in_at is ∙ read_again s.0 s.1 (drop (length text) leads.hashed) first_value within in
+          absurd (let both : ◌≡◌ {A = Result (Snapshot × List ℕ) Fault} (Err Cut) (Ok ((s.0, s.1), drop (length text) leads.hashed)) = sym cut ∙ found in cc)
+
       fewer : length leads.hashed ≤ length text
       fewer = elim leads.short [
         | inl none ↦ omega (arith, ap length none)
@@ -143,11 +148,6 @@ module _ (read : Reader Snapshot) (same : (bytes : List ℕ) → read bytes ≡ 
           | inr short ↦ short
         ]
       ]
-
-      not_cut : snapshot_in_at leads.hashed ≡ Err Cut → leads.hashed ≡ text ++ drop (length text) leads.hashed → ⊥
-      not_cut cut is =
-          let found = ap snapshot_in_at is ∙ read_again s.0 s.1 (drop (length text) leads.hashed) first_value within in
-          absurd (let both : ◌≡◌ {A = Result (Snapshot × List ℕ) Fault} (Err Cut) (Ok ((s.0, s.1), drop (length text) leads.hashed)) = sym cut ∙ found in cc)
 
   pub too_long_refuses : (size : ℕ) (e : Fault) → size ≡ length (snapshot_text_in s.0 s.1) → (e ≡ Memory) ⊎ ((e ≡ TooLong) × (LIMIT < size)) → IfSome first (λ input. RefusesBytes input e)
   too_long_refuses size e is why =

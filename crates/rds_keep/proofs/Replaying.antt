@@ -16,6 +16,7 @@ use Rattle.rds_state.specs.Fits.{Fits, ReplicaValue}
 use Rattle.rds_state.specs.Value.{coordinates}
 use Rattle.rds_journal.specs.Records.{IsPayload, record_text}
 use Rattle.rds_journal.specs.declared.records.TheConstants.{MOST, HEAD}
+use Rattle.rds_keep.specs.declared.sums.TheConstants.{SUM_LENGTH}
 use Rattle.rds_keep.specs.Changes.{ChangeValue, change_kind, change_text, roster_after}
 use Rattle.rds_keep.specs.Counted.{CountedValue, most_read}
 use Rattle.rds_keep.specs.Kept.{AreMade, EndsAs, records_text}
@@ -137,7 +138,7 @@ unredone old now new bytes rest payload behind e taken first short same whole wh
 -- ---- with a reader
 
 -- what is held grows
-pub holds_more : (before after : Option (List ℕ)) (old new : List ℕ) (most : ℕ) → StartsWith new old → Consumes before after (appended_bytes old new) → (length new < most → IsAtEnd after) → MOST + HEAD < most
+pub holds_more : (before after : Option (List ℕ)) (old new : List ℕ) (most : ℕ) → StartsWith new old → Consumes before after (appended_bytes old new) → (length new < most → IsAtEnd after) → MOST + HEAD + SUM_LENGTH < most
     → HoldsMore before after old new
 holds_more before after old new most kept consumed end room = record {
   given = appended_bytes old new;

@@ -1,4 +1,4 @@
-use Rattle.std.proofs.Common.{◌≡◌, ◌++◌, refl, arith}
+use Rattle.std.proofs.Common.{◌≡◌, ◌∙◌, ◌++◌, ℕ, List, get_or, refl, sym, ap, arith}
 use Rattle.std.proofs.lemmas.Grind.{common_steps}
 use Rattle.rds_journal.specs.Records.{IsPayload}
 use Rattle.rds_keep.specs.Sums.{sum_payload}
@@ -15,4 +15,4 @@ pub returns-then-kind-ne-SUM-clause-none : goal.returns-then-kind-ne-SUM-clause-
 returns-then-kind-ne-SUM-clause-none c = λ none more end.
     let short : IsPayload (sum_payload c.args.sum.now) = grind (arith, common_steps) in
     let first = c.in-Some.ensures.first in
-    other_payload_sum c.args.sum.now c.args.bytes.now c.in-Some.payload.now c.in-Some.rest.now more short first.short first.parts ?
+    other_payload_sum c.args.sum.now c.args.bytes.now c.in-Some.payload.now c.in-Some.rest.now more short first.short first.parts (λ e. c.if-kind-ne-SUM.true (sym (ap (λ (t : List ℕ). get_or t 0 0) c.in-Some-split_first.ensures.cases.0) ∙ ap (λ (t : List ℕ). get_or t 0 0) e))
