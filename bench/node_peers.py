@@ -20,6 +20,8 @@ EVERY_SECOND = 3
 READ = 100
 # A peer that says nothing is given up after so many seconds.
 PATIENCE = 30
+# A peer that can't be met is called again after so many seconds at the most. Before that it is away for so many.
+LONGEST_REST, AWAY = 8, 16
 # How many exchanges a second there may be: one 20 ms after each change.
 RATE = 50
 
@@ -384,6 +386,20 @@ def try_gone(asked, folder):
     return f"a peer that begins is met {took[0]:.1f} s after that, and {took[1]:.1f} s after it was killed"
 
 
+def try_away(asked, folder):
+    """A peer that was away for a while, and was called after 1, 2, 4 and 8 s, is met within 8 s."""
+    a, b = nodes_of(asked, folder, "ab")
+    a.meets(b.port, every=1)
+    with running(a):
+        tells(a, b.port, ["lost"])
+        put(a, 1)
+        time.sleep(AWAY)
+        with running(b):
+            took = arrives(b, 1, LONGEST_REST + 1)
+            are_met(a, 1)
+    return f"a peer that begins after {AWAY} s is met {took:.1f} s after that"
+
+
 def try_unfound(asked, folder):
     """A peer whose name isn't found, then elsewhere, and then found, by a table of hosts of the node's own."""
     if os.geteuid():
@@ -417,7 +433,7 @@ def meeting(part):
 
 
 MEETINGS = [meeting(part) for part in (try_one_sided, try_scattered, try_told_fork, try_idle)]
-PARTS = [try_both, try_one_way, try_ring, try_token, try_join, try_fork, *MEETINGS, try_gone, try_unfound, try_wrong]
+PARTS = [try_both, try_one_way, try_ring, try_token, try_join, try_fork, *MEETINGS, try_gone, try_away, try_unfound, try_wrong]
 
 
 def try_peers(asked, folder):

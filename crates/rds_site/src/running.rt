@@ -58,7 +58,7 @@ use std::time::Instant;
 /// the site goes on. What is no request of HTTP has no line.
 ///
 /// There are at most 64 peers. One that can't be found or met, that refuses, or that brings what is refused is tried
-/// again after 1, 2, 4, .. up to 60 seconds. Its name is looked up again where no connection could be made. Standard
+/// again after 1, 2, 4, and then each 8 seconds. Its name is looked up again where no connection could be made. Standard
 /// error has a line where that begins and ends. The responses that are under way have at most 256 MB. Every 30 seconds
 /// a byte has to go or come.
 pub fn run_site<H: Disk + Net + RandomSource + Print>(rt: &H, words: &SiteWords<'_>) -> Fault
