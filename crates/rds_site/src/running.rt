@@ -53,7 +53,7 @@ use std::time::Instant;
 /// is let go, and one that was sent nothing for 20 seconds is sent a ping.
 ///
 /// Where the words ask for a log, standard output has a line for each request that the site was asked: the client's
-/// address, the method, the target, the status, how many bytes the answer's body has, and how many microseconds passed
+/// address, the method, the target, of which 200 bytes are told at most, the status, how many bytes the answer's body has, and how many microseconds passed
 /// from when the turn began until its changes were kept. It is written once the answer was sent, and where it can't be
 /// the site goes on. What is no request of HTTP has no line.
 ///
