@@ -18,7 +18,7 @@ AT_ONCE = 1
 EVERY_SECOND = 3
 # A read of a node whose peers are wrong may take so many milliseconds.
 READ = 100
-# A peer that says nothing is given up after so many seconds.
+# A peer that says nothing, or less than 1 kB, is given up after so many seconds.
 PATIENCE = 30
 # A peer that can't be met is called again after so many seconds at the most. Before that it is away for so many.
 LONGEST_REST, AWAY = 8, 16
@@ -298,11 +298,11 @@ def serve(a, b, seconds):
 
 def judge_told(a, fakes):
     """Each wrong peer was called, and told of: no line twice, and none that it is met."""
-    noted, endless = Noted(), ["drips"] + ["sends a body without end"] * (a.slow > 1)
+    noted, endless = Noted(), ["sends a body without end"] * (a.slow > 1)
     for what, fake in fakes.items():
         lines, calls = told(a, fake.port), fake.calls()
         with noted:
-            want(calls > (what not in ["is silent", *endless]), f"a peer that {what} is called {calls} times")
+            want(calls > (what not in ["is silent", "drips", *endless]), f"a peer that {what} is called {calls} times")
             want(lines or what in endless, f"of a peer that {what} nothing is told")
             want("met" not in lines, f"a peer that {what} is told to be met: {lines}")
             again = any(line == following for line, following in itertools.pairwise(lines))
@@ -433,7 +433,8 @@ def meeting(part):
 
 
 MEETINGS = [meeting(part) for part in (try_one_sided, try_scattered, try_told_fork, try_idle)]
-PARTS = [try_both, try_one_way, try_ring, try_token, try_join, try_fork, *MEETINGS, try_gone, try_away, try_unfound, try_wrong]
+PARTS = [try_both, try_one_way, try_ring, try_token, try_join, try_fork, *MEETINGS, try_gone, try_away]
+PARTS += [try_unfound, try_wrong]
 
 
 def try_peers(asked, folder):
