@@ -18,8 +18,10 @@ AT_ONCE = 1
 EVERY_SECOND = 3
 # A read of a node whose peers are wrong may take so many milliseconds.
 READ = 100
-# A peer that says nothing is given up after so many seconds.
+# A peer that says nothing, or less than 1 kB, is given up after so many seconds.
 PATIENCE = 30
+# A peer that can't be met is called again after so many seconds at the most. Before that it is away for so many.
+LONGEST_REST, AWAY = 8, 16
 # How many exchanges a second there may be: one 20 ms after each change.
 RATE = 50
 
@@ -296,11 +298,11 @@ def serve(a, b, seconds):
 
 def judge_told(a, fakes):
     """Each wrong peer was called, and told of: no line twice, and none that it is met."""
-    noted, endless = Noted(), ["drips"] + ["sends a body without end"] * (a.slow > 1)
+    noted, endless = Noted(), ["sends a body without end"] * (a.slow > 1)
     for what, fake in fakes.items():
         lines, calls = told(a, fake.port), fake.calls()
         with noted:
-            want(calls > (what not in ["is silent", *endless]), f"a peer that {what} is called {calls} times")
+            want(calls > (what not in ["is silent", "drips", *endless]), f"a peer that {what} is called {calls} times")
             want(lines or what in endless, f"of a peer that {what} nothing is told")
             want("met" not in lines, f"a peer that {what} is told to be met: {lines}")
             again = any(line == following for line, following in itertools.pairwise(lines))
@@ -384,6 +386,20 @@ def try_gone(asked, folder):
     return f"a peer that begins is met {took[0]:.1f} s after that, and {took[1]:.1f} s after it was killed"
 
 
+def try_away(asked, folder):
+    """A peer that was away for a while, and was called after 1, 2, 4 and 8 s, is met within 8 s."""
+    a, b = nodes_of(asked, folder, "ab")
+    a.meets(b.port, every=1)
+    with running(a):
+        tells(a, b.port, ["lost"])
+        put(a, 1)
+        time.sleep(AWAY)
+        with running(b):
+            took = arrives(b, 1, LONGEST_REST + 1)
+            are_met(a, 1)
+    return f"a peer that begins after {AWAY} s is met {took:.1f} s after that"
+
+
 def try_unfound(asked, folder):
     """A peer whose name isn't found, then elsewhere, and then found, by a table of hosts of the node's own."""
     if os.geteuid():
@@ -417,7 +433,8 @@ def meeting(part):
 
 
 MEETINGS = [meeting(part) for part in (try_one_sided, try_scattered, try_told_fork, try_idle)]
-PARTS = [try_both, try_one_way, try_ring, try_token, try_join, try_fork, *MEETINGS, try_gone, try_unfound, try_wrong]
+PARTS = [try_both, try_one_way, try_ring, try_token, try_join, try_fork, *MEETINGS, try_gone, try_away]
+PARTS += [try_unfound, try_wrong]
 
 
 def try_peers(asked, folder):

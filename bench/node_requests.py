@@ -481,6 +481,19 @@ GET /value/ü‮
   GET /value/%C3%BC%C2%85%E2%80%AE 200 .. N
 """
 
+# Targets behind /nothing/, and what the log is due to say of each: 200 bytes at the most, and no part of an escape.
+LONG = {
+    "x" * 191: "x" * 191,
+    "x" * 192: "x" * 191 + "...",
+    "x" * 3_000: "x" * 191 + "...",
+    "x" * 188 + "%41": "x" * 188 + "%41",
+    "x" * 188 + "%41x": "x" * 188 + "%41...",
+    "x" * 189 + "%41": "x" * 189 + "...",
+    "x" * 190 + "%41": "x" * 190 + "...",
+    "x" * 186 + "\u00fcx": "x" * 186 + "%C3...",
+    "x" * 190 + "\u00fc": "x" * 190 + "...",
+}
+
 
 def judge_log(node):
     """A line for each request, in the order in which they were answered, with `--log`."""
@@ -495,6 +508,9 @@ def judge_log(node):
                 continue
             line = line.strip().replace("HOST", f"127.0.0.1:{node.port}")
             due.append(re.escape(f"{client} {line}").replace(r"\.\.", f"{len(answer.body)}").replace(" N", r" \d+"))
+        for target, shown in LONG.items():
+            answer = link.answer(node.text("GET", "TARGET").replace(b"TARGET", f"/nothing/{target}".encode()))
+            due.append(re.escape(f"{client} GET /nothing/{shown} 404 {len(answer.body)} ") + r"\d+")
         link.socket.sendall(node.text("GET", "/status") * 300)
         due += [re.escape(f"{client} GET /status 200 ") + rf"{len(link.answer().body)} \d+" for _ in range(300)]
     with node.link() as link:

@@ -11,7 +11,8 @@ import struct
 import time
 from concurrent.futures import ThreadPoolExecutor
 
-from serving import HOST, TOKEN, UPGRADE, Ended, Node, Wrong, at, edit, frame_of, is_served, running, soon, want
+from serving import HOST, LIMIT, TOKEN, UPGRADE, Ended, Node, Wrong
+from serving import at, edit, frame_of, is_served, listener, running, soon, want
 
 # Statuses that mangled requests may be answered with.
 STATUSES = {100, 101, 200, 204, 400, 401, 403, 404, 405, 409, 411, 413, 414, 417, 426, 431, 501, 505}
@@ -166,7 +167,11 @@ def has_ended(link, text=b""):
     return True
 
 
-def judge_crowd(node, count=1_100, most=1_024):
+# So many connections a node has at once.
+PLACES = 1_024
+
+
+def judge_crowd(node, count=1_100, most=PLACES):
     """More connections at once than are allowed: those above are ended."""
     links = [node.link().socket for _ in range(count)]
     left = lambda: sum(not has_ended(link) for link in links if link.fileno() >= 0)
@@ -182,6 +187,65 @@ def judge_crowd(node, count=1_100, most=1_024):
 # that FILE is written anew now and then.
 DESCRIPTORS = 1_024
 EDITS, BYTES = 60, 1_000
+
+
+def are_served(node, beside, count=10, seconds=15):
+    """New clients, one after the other, none of which may wait until those that say nothing are overdue."""
+    for _ in range(count):
+        begun = time.monotonic()
+        is_due = is_served(node) and time.monotonic() - begun < seconds
+        want(is_due, f"a new client isn't served beside {beside}")
+
+
+def judge_given_up(node, links, least, most, what):
+    """Of these connections so many have to be ended, all of them of the older half. Who made others wait rests, and
+    counts from when it was woken. A node that is unproved has many of those, and isn't judged."""
+    if node.slow > 1:
+        return
+    among = len(links) // 2
+    ended = [has_ended(link.socket) for link in links]
+    told = f"{sum(ended)} are ended, {sum(ended[:among])} of them of the first {among}"
+    is_due = least <= sum(ended) <= most and not any(ended[among:])
+    want(is_due, f"of {len(links):,} connections that {what} {told}, where {least} to {most} of these are due")
+
+
+def try_places(asked, folder):
+    """Where all places are taken a new client gets that of the oldest that has asked nothing, and then of who has been
+    quiet for longest. Who hears of changes keeps its place, and where all do none is served."""
+    node = Node(asked.program, folder, TOKEN)
+    node.slow = asked.slow
+    with running(node), contextlib.ExitStack() as stack:
+        opened = lambda links: [stack.enter_context(link) for link in links]
+        kept, live = opened([node.link(), listener(node)])
+        edit(kept, node, 1)
+        want(live.frame(LIMIT), "a listener hears nothing")
+        silent = opened(node.link() for _ in range(PLACES // 2))
+        are_served(node, f"{len(silent)} silent connections", 1)
+        silent += opened(node.link() for _ in range(PLACES // 2 + 100))
+        are_served(node, f"{len(silent):,} silent connections")
+        judge_given_up(node, silent, 103, 113, "say nothing")
+        quiet = []
+        for number in range(PLACES - 2):
+            quiet += opened([node.link()])
+            for link in [quiet[-1], kept][: 1 + (number % 100 == 0)]:
+                want(link.answer(node.text("GET", "/status")).status == 200, "one of many isn't served")
+        stay = sum(link.socket.fileno() >= 0 and not has_ended(link.socket) for link in silent)
+        want(node.slow > 1 or not stay, f"{stay} silent connections stay beside {len(quiet):,} that have asked")
+        # Those rest no more then that made others wait.
+        time.sleep(1)
+        edit(kept, node, 2)
+        are_served(node, f"{len(quiet):,} connections that are quiet")
+        judge_given_up(node, quiet, 1, 10, "are quiet")
+        want(live.frame(LIMIT), "a listener hears nothing beside quiet connections")
+        listeners = opened(listener(node) for _ in range(PLACES - 1))
+        with node.link() as link:
+            want(not is_served(node) and link.is_ended(LIMIT), f"one more is served than {PLACES:,} listeners")
+        listeners.pop().socket.close()
+        soon(lambda: is_served(node), "a new client isn't served once a listener has gone")
+        with node.link() as link:
+            edit(link, node, 3)
+        want(all(each.frame(LIMIT) for each in [live, *listeners]), "a listener hears nothing")
+    return f"new clients are served where all {PLACES:,} places are taken"
 
 
 def try_few(asked, folder):
@@ -200,6 +264,8 @@ def try_few(asked, folder):
             held.add(len(list(pathlib.Path(f"/proc/{node.child.pid}/fd").iterdir())))
         want(max(held) > DESCRIPTORS - 50, f"beside {len(idle)} idle connections a node has {max(held)} descriptors")
         want(len(files) > 1, f"{EDITS} edits of {BYTES} bytes are all appended")
+        are_served(node, f"{len(idle)} idle connections, of {DESCRIPTORS} descriptors")
+        edit(link, node, 1)
         for each in idle:
             each.close()
         soon(lambda: is_served(node), "a new client isn't served once all others have gone")
@@ -264,4 +330,5 @@ def try_strangers(asked, folder):
     for place, token in ("open", None), ("shut", TOKEN):
         with running(Node(asked.program, folder / place, token)) as node:
             told.append(bother(node, chance, asked.strangers))
-    return f"without a token {told[0]}; with one {told[1]}; {try_few(asked, folder / 'few')}"
+    few, places = try_few(asked, folder / "few"), try_places(asked, folder / "places")
+    return f"without a token {told[0]}; with one {told[1]}; {few}; {places}"

@@ -26,6 +26,9 @@ const LONGEST_BODY: usize = 67_108_864;
 /// While more bytes than this wait for a client, its requests wait.
 const MOST_PENDING: usize = 1_048_576;
 
+/// The errors of a system and of a process that have no further descriptor: `ENFILE`, `EMFILE`.
+const NO_DESCRIPTOR: [Option<i32>; 2] = [Some(23), Some(24)];
+
 /// How many milliseconds are waited at most while there are clients, or the next one can't be accepted.
 const TICK: u64 = 1000;
 
@@ -123,14 +126,19 @@ impl Door {
         }
     }
 
-    /// Accepts clients that wait. Those above the limit are let go at once.
+    /// Accepts clients that wait. Where there is no place or descriptor for one, another is given up for it, or else it
+    /// is let go at once.
     pub fn accept(&mut self, clients: &mut Clients, now: Instant) {
         if self.arrivals != Arrivals::Some {
             return;
         }
+        let mut lacks = false;
         for _ in 0..MOST_CLIENTS {
             match self.listener.accept() {
-                Ok((stream, address)) => self.admit(stream, address, clients, now),
+                Ok((stream, address)) => {
+                    lacks = false;
+                    self.admit(stream, address, clients, now);
+                }
                 Err(error) => match error.kind() {
                     ErrorKind::WouldBlock => {
                         self.arrivals = Arrivals::None;
@@ -138,17 +146,20 @@ impl Door {
                     }
                     ErrorKind::ConnectionAborted | ErrorKind::Interrupted => (),
                     _ => {
-                        self.arrivals = Arrivals::Later;
-                        return;
+                        if lacks || !lacks_descriptor(&error) || !clients.make_room() {
+                            self.arrivals = Arrivals::Later;
+                            return;
+                        }
+                        lacks = true;
                     }
                 },
             }
         }
     }
 
-    // Takes a client in. One that can't be watched is let go.
+    // Takes a client in, where there is a place for it or another is given up. One that can't be watched is let go.
     fn admit(&self, stream: TcpStream, address: SocketAddr, clients: &mut Clients, now: Instant) {
-        if clients.is_full() {
+        if clients.is_full() && !clients.make_room() {
             return;
         }
         let mut socket = Socket::new(stream);
@@ -158,6 +169,11 @@ impl Door {
             clients.put(Client::new(address, socket, connection, now));
         }
     }
+}
+
+// Whether an error says that there is no further descriptor.
+fn lacks_descriptor(error: &io::Error) -> bool {
+    NO_DESCRIPTOR.contains(&error.raw_os_error())
 }
 
 // The limits of a connection.

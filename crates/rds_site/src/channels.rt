@@ -8,8 +8,11 @@ use rds_files::Disk;
 use std::alloc::Global;
 use std::time::Instant;
 
-/// Within so many seconds a byte has to go or come.
+/// Within so many seconds a byte has to go, or a response to begin or to end, or enough of it to come.
 pub const PATIENCE: u64 = 30;
+
+/// So many bytes of a response are enough.
+const ENOUGH: usize = 1024;
 
 /// The room that a read is given, in bytes.
 const ROOM: usize = 65_536;
@@ -22,8 +25,9 @@ const READS: u32 = 16;
 pub struct Channel {
     socket: Socket,
     talk: Talk,
-    // When a byte last went or came.
+    // When a byte last went, or enough came; and how many bytes have come since.
     since: Instant,
+    come: usize,
     heard: Heard,
     // Whether anything came since the last request.
     is_answered: bool,
@@ -36,12 +40,13 @@ impl Channel {
             socket,
             talk: Talk::new(alloc),
             since: now,
+            come: 0,
             heard: Heard::Part,
             is_answered: false,
         }
     }
 
-    /// When a byte last went or came.
+    /// Since when the peer lets wait: when a byte last went, or enough came.
     pub fn since(&self) -> Instant {
         self.since
     }
@@ -83,10 +88,7 @@ impl Channel {
             }
             match self.socket.receive_bytes(&mut self.talk.input, ROOM) {
                 Ok(0) => return self.talk.end(),
-                Ok(_) => {
-                    self.since = now;
-                    self.is_answered = true;
-                }
+                Ok(count) => self.note(count, now),
                 Err(error) => {
                     self.heard = Heard::after(&error);
                     if self.heard == Heard::Gone {
@@ -97,6 +99,16 @@ impl Channel {
             }
         }
         Ok(None)
+    }
+
+    // Notes bytes that came: the first of a response, or further ones.
+    fn note(&mut self, count: usize, now: Instant) {
+        self.come = self.come.saturating_add(count);
+        if !self.is_answered || ENOUGH <= self.come {
+            self.since = now;
+            self.come = 0;
+        }
+        self.is_answered = true;
     }
 
     /// Sends what waits, as far as the peer takes it. Where it takes nothing any more, what it still says is heard.

@@ -45,13 +45,14 @@ pub enum Next {
     Never,
 }
 
-/// How many bytes of a client were read since it was answered last, and the most that there ever were; and whether what
-/// was answered last took long.
+/// How many bytes of a client were read since it was answered last, and the most that there ever were; whether what was
+/// answered last took long; and whether anything was answered.
 #[derive(Clone, Copy)]
 struct Load {
     unread: usize,
     most: usize,
     is_slow: bool,
+    is_answered: bool,
 }
 
 impl Load {
@@ -64,7 +65,16 @@ impl Load {
     fn clear(&mut self) {
         self.unread = 0;
         self.is_slow = false;
+        self.is_answered = true;
     }
+}
+
+/// Since when a client is quiet that may be given up for another. Those that were answered nothing yet come before the
+/// others, and of two the one that has been quiet for longer.
+#[derive(Clone, Copy, PartialEq, Eq, PartialOrd, Ord)]
+pub struct Quiet {
+    is_answered: bool,
+    since: Instant,
 }
 
 /// A client: its socket, and what it speaks.
@@ -100,6 +110,7 @@ impl Client {
                 unread: 0,
                 most: 0,
                 is_slow: false,
+                is_answered: false,
             },
             is_listed: false,
             is_resting: false,
@@ -126,6 +137,29 @@ impl Client {
     pub fn is_overdue(&self, now: Instant) -> bool {
         let may_wait = self.is_listener() || self.is_resting;
         !may_wait && PATIENCE <= now.duration_since(self.since).as_secs()
+    }
+
+    /// Since when it is quiet, where it may be given up for another: it isn't told of changes, no answer is under way
+    /// to it, and no further request where it was answered one.
+    pub fn quiet(&self) -> Option<Quiet> {
+        let Load {
+            unread,
+            is_answered,
+            ..
+        } = self.load;
+        let is_asking = is_answered && (self.is_listed || unread != 0);
+        let is_busy = match &self.talk {
+            Talk::Http(connection) => connection.wants_write() || is_asking,
+            Talk::Live(_) => true,
+            Talk::Last => false,
+        };
+        if is_busy || self.is_resting {
+            return None;
+        }
+        Some(Quiet {
+            is_answered,
+            since: self.since,
+        })
     }
 
     /// Has it be sent a ping, where it is a listener to which nothing was sent for a while. Answers whether it is.

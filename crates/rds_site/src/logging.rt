@@ -13,6 +13,12 @@ use std::alloc::{AllocError, Global};
 use std::net::SocketAddr;
 use std::time::Duration;
 
+/// So many bytes of a method and of a target are told at most: strangers choose them.
+const MOST_TOLD: usize = 200;
+
+/// How many bytes of an escape may stand at the end of what is told, which isn't whole then.
+const PART: usize = 2;
+
 /// The lines of a turn, but for the time that it takes. Where there is no memory for one it is left out.
 #[derive(Drop)]
 pub struct Log {
@@ -124,7 +130,8 @@ where
     }
 }
 
-// A line: the client's address, the method, the target, the status, and how many bytes the answer's body has.
+// A line: the client's address, the method, the target, the status, and how many bytes the answer's body has. Three
+// dots stand behind a method or a target of which a part is told.
 fn line_of(
     alloc: Global,
     client: SocketAddr,
@@ -132,10 +139,12 @@ fn line_of(
     response: &Response,
 ) -> Result<String, AllocError> {
     let uri = request.uri();
-    let target = format!(in alloc; "{uri}")?;
-    let method = request.method().as_str();
-    let mut line = format!(in alloc; "{client} {method} ")?;
-    push_visible(&mut line, target.as_bytes())?;
+    let mut target = String::new(alloc);
+    push_visible(&mut target, format!(in alloc; "{uri}")?.as_bytes())?;
+    let mut line = format!(in alloc; "{client} ")?;
+    push_told(&mut line, request.method().as_str())?;
+    line.push(' ')?;
+    push_told(&mut line, target.as_str())?;
     let status = response.status.as_u16();
     let length = if *request.method() == Method::HEAD {
         0
@@ -156,6 +165,26 @@ fn push_visible(text: &mut String, bytes: &[u8]) -> Result<(), AllocError> {
         }
     }
     Ok(())
+}
+
+// Adds what is told of visible characters: all, or the first of them without a part of an escape.
+fn push_told(line: &mut String, text: &str) -> Result<(), AllocError> {
+    match text.get(..told_len(text.as_bytes())) {
+        Some(told) if told.len() < text.len() => write!(line, "{told}..."),
+        _ => line.push_str(text),
+    }
+}
+
+fn told_len(text: &[u8]) -> usize {
+    if text.len() <= MOST_TOLD {
+        return text.len();
+    }
+    for len in MOST_TOLD - PART..MOST_TOLD {
+        if text.get(len) == Some(&b'%') {
+            return len;
+        }
+    }
+    MOST_TOLD
 }
 
 // The lines, each with the time in microseconds.

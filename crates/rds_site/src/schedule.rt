@@ -11,7 +11,7 @@ const REST: u32 = 10;
 const LONGEST_REST: u64 = 2000;
 
 /// The longest wait after a failure, in seconds.
-const LONGEST_WAIT: u64 = 60;
+const LONGEST_WAIT: u64 = 8;
 
 /// One that failed is tried again after so many times the time that it took here, and no sooner. All else waits while a
 /// name is looked up, which may take seconds.
@@ -93,10 +93,10 @@ impl Schedule {
         self.failures = 0;
     }
 
-    /// The exchange under way failed, or couldn't begin: it is tried again after 1, 2, 4, .. up to 60 seconds, and later
-    /// where it took long here.
+    /// The exchange under way failed, or couldn't begin: it is tried again after 1, 2, 4, and then each 8 seconds, and
+    /// later where it took long here.
     pub fn fail(&mut self, now: Instant) {
-        let seconds = if self.failures < 6 {
+        let seconds = if self.failures < 3 {
             1 << self.failures
         } else {
             LONGEST_WAIT

@@ -1,5 +1,5 @@
 //! The clients of a site.
-use crate::clients::{Client, Next};
+use crate::clients::{Client, Next, Quiet};
 use crate::committed::Committed;
 use crate::logging::LoggedSite;
 use crate::schedule::Rest;
@@ -85,6 +85,37 @@ impl Clients {
     pub fn put(&mut self, client: Client) {
         if let Ok(key) = self.table.insert(client) {
             list(&mut self.table, &mut self.due, key);
+        }
+    }
+
+    /// Lets one go for another that comes, before those are heard that have a turn: the oldest of those that were
+    /// answered nothing yet, or else the one that has been quiet for longest between two requests. Answers whether
+    /// there was one.
+    pub fn make_room(&mut self) -> bool {
+        let mut first: Option<(usize, Quiet)> = None;
+        for key in 0..MOST_CLIENTS {
+            if let Some(quiet) = self.table.get(key).and_then(Client::quiet) {
+                if first.is_none_or(|(_, least)| quiet < least) {
+                    first = Some((key, quiet));
+                }
+            }
+        }
+        match first {
+            Some((key, _)) => {
+                self.due.retain(|due| *due != key);
+                self.remove(key);
+                true
+            }
+            None => false,
+        }
+    }
+
+    // Lets the client of this key go.
+    fn remove(&mut self, key: usize) {
+        if let Some(client) = self.table.try_remove(key) {
+            let had = Share::of(&client);
+            self.listeners = changed(self.listeners, had.listeners, 0);
+            self.room = changed(self.room, had.room, 0);
         }
     }
 
@@ -203,18 +234,15 @@ impl Clients {
         let before = Share::of(client);
         client.set_listed(false);
         let next = client.send(self.alloc, committed, now);
-        let mut after = Share::of(client);
+        let after = Share::of(client);
+        self.listeners = changed(self.listeners, before.listeners, after.listeners);
+        self.room = changed(self.room, before.room, after.room);
         match next {
             Next::Event => (),
             Next::Turn => list(&mut self.table, &mut self.next, key),
             Next::Rest => rest(&mut self.table, &mut self.resting, key),
-            Next::Never => {
-                after = Share::NONE;
-                let _ = self.table.try_remove(key);
-            }
+            Next::Never => self.remove(key),
         }
-        self.listeners = changed(self.listeners, before.listeners, after.listeners);
-        self.room = changed(self.room, before.room, after.room);
     }
 
     /// Lets those go that are overdue, and has quiet listeners be sent a ping: in the next turn, which comes at once.
@@ -240,11 +268,6 @@ struct Share {
 }
 
 impl Share {
-    const NONE: Share = Share {
-        listeners: 0,
-        room: 0,
-    };
-
     fn of(client: &Client) -> Share {
         Share {
             listeners: usize::from(client.is_listener()),

@@ -38,7 +38,7 @@ pub enum Trouble {
     System(io::Error),
     /// The peer ended the connection.
     Ended,
-    /// For so many seconds nothing went or came.
+    /// For so many seconds nothing went or came, or too little.
     Silence(u64),
     /// A response is none of HTTP/1.1.
     Garbled(ReadError),
@@ -204,7 +204,7 @@ impl Trouble {
             Trouble::System(error) => eprintln!(rt; "peer {name}: lost: {error}"),
             Trouble::Ended => eprintln!(rt; "peer {name}: lost: it ended the connection"),
             Trouble::Silence(seconds) => {
-                eprintln!(rt; "peer {name}: lost: {seconds} seconds without a byte")
+                eprintln!(rt; "peer {name}: lost: nothing or too little in {seconds} seconds")
             }
             Trouble::Garbled(error) => {
                 eprintln!(rt; "peer {name}: lost: its response is no HTTP/1.1: {error}")
