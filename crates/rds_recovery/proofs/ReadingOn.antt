@@ -87,7 +87,7 @@ file_on whole behind format count v w layout file read =
     let which = stored_first format b first (records ++ behind) (whole ++ behind) w layout file.value file.within parts read in
     let ends = ends_from format first (stored_rest read) (whole ++ behind) w layout read which refl in
     file_ends format first file.changes v w behind (stored_rest read) file.made ends
-    (elim (stored_either format b first (records ++ behind) (whole ++ behind) w layout file.value file.within parts read) [ inl same ↦ inl same.1 | inr sum ↦ inr sum.2.1 ])
+    (elim (stored_either format b first (records ++ behind) (whole ++ behind) w layout file.value file.within parts read) [ inl same ↦ inl same.1 | inr sum ↦ inr sum.2 ])
 
 -- where no record begins, it stays so
 pub ends_on_there : (v : ReplicaValue) (bytes : List ℕ) (w : ReplicaValue) → EndsOn v bytes w → (IsBegun bytes → ⊥) → v ≡ w
