@@ -1,5 +1,5 @@
 -- `clear`, as it takes its option.
-use Rattle.std.proofs.Common.{◌≡◌, ◌⊎◌, List, [], ◌∷◌, codes, None, refl, inl, inr}
+use Rattle.std.proofs.Common.{◌≡◌, ◌⊎◌, List, [], ◌∷◌, codes, Some, None, refl, inl, inr}
 use Rattle.std.specs.Prelude.{fold, option_and_then, option_map, unwrap_or}
 use Rattle.clap.specs.Words.{Row, Shape, Text}
 use Rattle.clap.specs.Walk.{arg_by_index, arg_by_long, has_long, with_default}
