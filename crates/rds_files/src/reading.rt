@@ -132,7 +132,9 @@ fn told<H: Eprint>(rt: &H, path: &str, refused: Refused) -> Fault
     let _ = match fault {
         Fault::Device | Fault::Memory => eprintln!(rt; "{path}: can't be read: {fault}"),
         Fault::Bad if at > 0 => eprintln!(rt; "{path}: damaged at byte {at}"),
-        Fault::Bad => eprintln!(rt; "{path}: isn't an rds file, or its snapshot is damaged: {fault}"),
+        Fault::Bad => eprintln!(rt;
+            "{path}: isn't an rds file, or its snapshot is damaged: {fault}"
+        ),
         _ => eprintln!(rt; "{path}: isn't an rds file: {fault}"),
     };
     fault
