@@ -126,6 +126,111 @@ def try_put(asked, folder):
             due = {"k": {"maps": {}, "regs": {"n1": [1]}, "sets": {}}} if group == "g" else {}
             want((found, shown) == (group, due), f"where {what} the next start has the group {found} with {shown}")
     done = f"{number + 1} files that others put in a node's place stay whole"
+    return f"{done}; {try_gone(asked, folder / 'gone')}"
+
+
+# What others do to a node's file so that it has another name, and none at its path.
+MOVES = {
+    "a file is moved": os.rename,
+    "a file is moved to another folder": lambda file, _: os.rename(file, file.parent / "folder" / "there"),
+    "a file is linked and its name removed": lambda file, there: (os.link(file, there), os.remove(file)),
+}
+
+
+def try_gone(asked, folder):
+    """A node whose file was moved acknowledges nothing more, and makes no file in its place; one that was removed is made
+    again."""
+    folder.mkdir()
+    for number, ((what, move), lines) in enumerate(itertools.product(MOVES.items(), [FEW, MANY])):
+        node = Node(asked.program, folder / f"{number}")
+        file, there = node.folder / "a.rds", node.folder / "there"
+        (node.folder / "folder").mkdir()
+        node.start()
+        with node.link() as link:
+            edit(link, node, 1)
+            edit(link, node, 2)
+            held = file.read_bytes()
+            move(file, there)
+            with contextlib.suppress(ConnectionError, Ended):
+                answer = link.answer(node.text("POST", "/edits", lines))
+                want(b'"dot":["a",' not in answer.body, f"where {what} an edit is answered {answer}")
+        status, said = node.child.wait(LIMIT), node.said()
+        due = "a.rds: has another name by now, and is left as it is\n"
+        want(status == 1 and said.endswith("fault 24: Device\n") and said.count(due) == 1,
+             f"where {what} a node ends with status {status}: {said}")
+        there = there if there.exists() else node.folder / "folder" / "there"
+        want(not file.exists() and there.read_bytes() == held, f"where {what} a node writes to it, or anew")
+        want(not (node.folder / "a.rds.new").exists(), f"where {what} a node leaves a.rds.new")
+        os.rename(there, file)
+        with running(node):
+            want(node.document()["maps"]["k"]["regs"] == {"n1": [1], "n2": [2]}, f"where {what} edits are lost")
+    done = f"so do {number + 1} that were moved from it"
+    return f"{done}; {try_removed(asked, folder / 'removed')}"
+
+
+def try_removed(asked, folder):
+    """The file of a node that was removed is made again by the next edit, with all that it held."""
+    for lines in FEW, MANY:
+        node = Node(asked.program, folder)
+        file = folder / "a.rds"
+        with running(node):
+            with node.link() as link:
+                edit(link, node, 1)
+                file.unlink()
+                answer = link.answer(node.text("POST", "/edits", lines))
+                count = answer.body.count(b'"dot":["a",')
+                want((answer.status, count) == (200, lines.count(b"\n") + 1), f"an edit is answered {answer}")
+                edit(link, node, 2)
+        maps = node.shown()["maps"]
+        found = len(maps["more"]["regs"]), maps["k"]["regs"]
+        want(found == (count, {"n1": [1], "n2": [2]}), f"a file that was removed, and made again, shows {found}")
+        shutil.rmtree(folder)
+    return f"one that was removed is made again; {try_narrow(asked, folder)}"
+
+
+# So many times MANY are sent to a node that can't write its file anew. A record of them has some 41,000 bytes. So the second
+# is the first that has no room. FILE then takes records up to twice the length that it has, and the fourth is tried again.
+TIMES = 5
+TRIED = 2
+
+
+def try_narrow(asked, folder):
+    """A node that can't write its file anew appends what it acknowledges, and tries again each time the file has twice the
+    length. It writes it anew once that can be done."""
+    node, file = Node(asked.program, folder), folder / "a.rds"
+    inode, sent = file.stat().st_ino, 0
+
+    def edits(count):
+        """Edits of which each time some 41,000 bytes are kept."""
+        for number in range(sent, sent + count):
+            answer = node.answer("POST", "/edits", MANY.replace(b"more", b"m%02d" % number))
+            want(answer.status == 200 and answer.body.count(b'"dot":["a",') == 40, f"edits are answered {answer}")
+        return sent + count
+
+    def judge(document):
+        found = {key: len(below["regs"]) for key, below in document["maps"].items()}
+        want(found == {f"m{number:02}": 40 for number in range(sent)}, f"{file} shows {found} after {sent} edits")
+
+    # What can't be removed, as a file that was left behind is.
+    (folder / "a.rds.new").mkdir()
+    with running(node):
+        sent = edits(TIMES)
+        told = node.said().count("cannot make a.rds.new: ")
+        want(told == TRIED, f"a node tells {told} times, and not {TRIED}, why a.rds.new isn't made: {node.said()}")
+    with running(node):
+        judge(node.document())
+        sent = edits(1)
+        length = file.stat().st_size
+        want(file.stat().st_ino == inode, f"{file} isn't the file that edits were appended to")
+    (folder / "a.rds.new").rmdir()
+    with running(node):
+        judge(node.document())
+        sent = edits(1)
+        want(file.stat().st_ino != inode, f"{file} isn't written anew once it can be")
+    judge(node.shown())
+    status = json.loads(node.told("status", "a.rds"))
+    want(status["snapshot"] == file.stat().st_size, f"{file} isn't written anew once it can be: {status}")
+    done = f"one that can't be written anew takes {length:,} bytes"
     return f"{done}; {try_owner(asked, folder / 'owner')}"
 
 

@@ -817,6 +817,14 @@ def read_file(text):
     return File(replica, snapshot, at, len(text))
 
 
+def told_torn(path, file):
+    """What people are told where a file of this path has a torn end."""
+    if file.whole == file.length:
+        return ""
+    passed = f"passes over {file.length - file.whole} bytes from byte {file.whole} on"
+    return f"{path}: {passed}: no whole record, as a crash or a cut copy leaves\n"
+
+
 def appended(text, payload):
     """A file with one more record, in place of a torn end. It is None where the file is to be written anew."""
     file = read_file(text)

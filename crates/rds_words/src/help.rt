@@ -140,10 +140,10 @@ the command adds a record, syncs FILE, and then answers. What changes nothing ad
 Where the change has more than 65,536 bytes, or all records would have more than that and
 more than the snapshot, or FILE is of format 1, it writes FILE anew, as 'compact' does:
 FILE.new is made beside it with mode 0600, gets FILE's mode, is written and synced, and
-then renamed to FILE. A record that wasn't written to its end is passed over, and the
-next one takes its place. So FILE holds what it held before a command or what it holds
-after it, whole. What isn't said to change FILE only reads it. Each command compares the
-checksums of what it reads: fault 13 where one differs.
+then renamed to FILE. A record that wasn't written to its end is passed over, of which
+standard error tells, and the next one takes its place. So FILE holds what it held before
+a command or what it holds after it, whole. What isn't said to change FILE only reads it.
+Each command compares the checksums of what it reads: fault 13 where one differs.
 
 Places: a FILE that is a link is followed, and stays a link. One that has several names
 (hard links), or no write bit, isn't changed: fault 24. One whose name ends in '.new' is
@@ -153,7 +153,9 @@ Nodes: in grow, set, add, del, clear, inc, dec, edit, get, show, conflicts, stat
 answer and take, FILE may be the address of a node, as http://127.0.0.1:7780. The node
 does it, and its answer is printed. What --from of 'init' names may be one too. A node's
 token is read from the file whose path RDS_TOKEN_FILE has in the environment.
---if-changed is for files alone.
+--if-changed is for files alone. Where a node can't write its FILE anew, it adds records
+up to twice FILE's length, and then tries again. It refuses edits and ends where FILE was
+moved or another was put there, and makes anew one that was removed.
 
 Copies: a name is used at one file alone. A copy is for reading, for a backup, or for
 'merge'; never edit one beside the original. To edit at a second place make the next
