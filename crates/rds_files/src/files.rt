@@ -609,6 +609,7 @@ where
         self.held = kept;
         self.layout = Some(layout);
         self.lasts = true;
+        self.put_off = 0;
         Ok(())
     }
 }
