@@ -756,8 +756,12 @@ def file_text(replica, format=2):
 
 
 def front_end(text, snapshot):
-    """Where the snapshot of so many bytes that begins a file ends, with the record of its checksum where that stands behind it."""
+    """Where the snapshot of so many bytes that begins a file ends, with the record of its checksum where that stands behind it.
+    Where no record does, the end of the file may not be such a record that begins inside of the snapshot."""
     payload = record_at(text, snapshot)
+    if payload is None:
+        last = record_at(text, len(text) - SUM) if snapshot < len(text) < snapshot + SUM <= len(text) + snapshot else None
+        refuse_if(last is not None and len(last) == SUM - HEAD and last[:1] == b"\3", 13)
     if payload is None or payload[:1] != b"\3":
         return snapshot
     refuse_if(payload[1:] != hashlib.sha256(text[:snapshot]).digest(), 13)

@@ -114,12 +114,8 @@ def test_a_changed_byte_of_the_snapshot(file: Path) -> None:
         shop["b"].set(1)
         shop.keep()
     longer = file.read_bytes()
-    # The length of the last text: with one more byte the snapshot ends in the record, whose rest is a torn end.
-    length = front - 7
     for at in range(len(text)):
         for whole in (text, longer):
-            if at == length and whole is text:
-                continue
             changed = bytearray(whole)
             changed[at] ^= 1
             file.write_bytes(changed)

@@ -19,7 +19,7 @@ use Rattle.rds_keep.specs.Kept.{IsFile, IsKept, IsStored, records_text}
 use Rattle.rds_keep.specs.Sums.{summed_text}
 use Rattle.rds_keep.specs.declared.layout.Layout.{Layout}
 use Rattle.rds_keep.proofs.Chains.{made_more, own_stays, records_more}
-use Rattle.rds_keep.proofs.Files.{nothing_torn}
+use Rattle.rds_keep.proofs.Files.{nothing_apart, nothing_torn}
 
 -- ---- the change is read again
 
@@ -75,13 +75,16 @@ pub stored_more : (file : List ℕ) (layout : Layout) (c : ChangedValue) → IsS
 stored_more file layout c stored is =
     let front : take layout.whole file ≡ stored.whole = ap (take layout.whole) stored.parts ∙ take_at stored.whole stored.torn layout.whole (sym stored.size) in
     let size = stored.size in
+    let longer : IsFile (take layout.whole file ++ c.bytes) layout.format layout.snapshot c.after =
+    subst (λ (t : List ℕ). IsFile (t ++ c.bytes) layout.format layout.snapshot c.after) (sym front) (file_more stored.whole layout.format layout.snapshot c stored.file is) in
     let all : length (take layout.whole file ++ c.bytes) ≡ layout.whole + length c.bytes = omega (arith, size, ap length front, length-append (take layout.whole file) c.bytes) in
     record {
       whole = take layout.whole file ++ c.bytes;
       torn = [];
       parts = sym (append-nil (take layout.whole file ++ c.bytes));
-      file = subst (λ (t : List ℕ). IsFile (t ++ c.bytes) layout.format layout.snapshot c.after) (sym front) (file_more stored.whole layout.format layout.snapshot c stored.file is);
+      file = longer;
       end = nothing_torn;
+      apart = nothing_apart longer;
       size = sym all;
       all = sym all;
     }

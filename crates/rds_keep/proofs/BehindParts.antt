@@ -11,12 +11,12 @@ use Rattle.rds_codec.specs.declared.formats.Format.{Format}
 use Rattle.rds_state.specs.Fits.{ReplicaValue}
 use Rattle.rds_journal.specs.Records.{IsBegun, IsTorn}
 use Rattle.rds_journal.specs.declared.records.TheConstants.{MOST, HEAD}
-use Rattle.rds_keep.specs.Kept.{AreWhole, EndsAs, IsFile, IsStored, RefusesBytes, records_text}
+use Rattle.rds_keep.specs.Kept.{AreWhole, EndsAs, IsApart, IsFile, IsStored, RefusesBytes, records_text}
 use Rattle.rds_keep.specs.Replay.{ReadsRecords, RefusesRest, ReplayValue, StopsReading, StopsAtRecord, TakesRecords}
 use Rattle.rds_keep.specs.Stored.{IsAllOf, IsFront, RefusesEnd, front_and}
 use Rattle.rds_keep.specs.Sums.{summed_text}
 use Rattle.rds_keep.specs.declared.layout.Layout.{Layout}
-use Rattle.rds_keep.proofs.Files.{end_refused, none_behind, rest_refused, taken_file, taken_stored, taken_whole, torn_before}
+use Rattle.rds_keep.proofs.Files.{end_refused, none_behind, rest_refused, taken_apart, taken_file, taken_is, taken_stored, taken_whole, torn_before}
 use Rattle.rds_keep.proofs.SnapshotsStay.{all_snapshots}
 
 -- ---- results
@@ -74,8 +74,8 @@ module _ (format : Format) (b : Bool) (first : ReplicaValue) (count : ℕ) (now 
   abbrev pub taken_bytes : List ℕ
   taken_bytes = summed_text format b first ++ records_text first.own taken.changes
 
-  pub taken_is_file : IsFile taken_bytes format count now.replica
-  taken_is_file = (taken_file format b first count now bytes rest is taken).0
+  abbrev pub taken_is_file : IsFile taken_bytes format count now.replica
+  taken_is_file = taken_is format b first count now bytes rest is taken
 
   pub taken_length : now.whole ≡ length taken_bytes
   taken_length = (taken_file format b first count now bytes rest is taken).1
@@ -83,11 +83,14 @@ module _ (format : Format) (b : Bool) (first : ReplicaValue) (count : ℕ) (now 
   pub taken_value : IsSnapshot now.replica
   taken_value = all_snapshots first taken.changes now.replica taken.made is.value
 
-  ended_stored : (more : List ℕ) (v : ReplicaValue) (layout : Layout) → IsTorn rest → (length rest ≤ MOST + HEAD → more ≡ []) → IsStored (taken_bytes ++ rest) v layout → IsStored (front_and format b first (bytes ++ more)) v layout
-  ended_stored more v layout torn end stored =
-      let here : IsStored (front_and format b first bytes) v layout = taken_stored format b first count now bytes rest v layout taken stored in
+  ended_stored : (more : List ℕ) (v : ReplicaValue) (layout : Layout) → IsAllOf format b first (bytes ++ more) → IsTorn rest → (length rest ≤ MOST + HEAD → more ≡ []) → (IsApart taken_is_file rest → IsStored (taken_bytes ++ rest) v layout)
+      → IsStored (front_and format b first (bytes ++ more)) v layout
+  ended_stored more v layout alone torn end stored =
       let nothing : more ≡ [] = end torn.short in
-      subst (λ (t : List ℕ). IsStored (front_and format b first t) v layout) (sym (ap (λ (t : List ℕ). bytes ++ t) nothing ∙ append-nil bytes)) here
+      let same : bytes ++ more ≡ bytes = ap (λ (t : List ℕ). bytes ++ t) nothing ∙ append-nil bytes in
+      let apart = taken_apart format b first count now bytes rest is taken (subst (IsAllOf format b first) same alone) in
+      let here : IsStored (front_and format b first bytes) v layout = taken_stored format b first count now bytes rest v layout taken (stored apart) in
+      subst (λ (t : List ℕ). IsStored (front_and format b first t) v layout) (sym same) here
 
   whole_before : (more : List ℕ) → AreWhole (front_and format b first (bytes ++ more)) now.whole
   whole_before more =
@@ -95,8 +98,8 @@ module _ (format : Format) (b : Bool) (first : ReplicaValue) (count : ℕ) (now 
 
   -- ---- bytes that are there
 
-  pub decoded_stored : (v : ReplicaValue) (layout : Layout) → IsStored (taken_bytes ++ rest) v layout → IsStored (front_and format b first bytes) v layout
-  decoded_stored v layout stored = taken_stored format b first count now bytes rest v layout taken stored
+  pub decoded_stored : (v : ReplicaValue) (layout : Layout) → IsAllOf format b first bytes → (IsApart taken_is_file rest → IsStored (taken_bytes ++ rest) v layout) → IsStored (front_and format b first bytes) v layout
+  decoded_stored v layout alone stored = taken_stored format b first count now bytes rest v layout taken (stored (taken_apart format b first count now bytes rest is taken alone))
 
   pub decoded_refused : (e : Fault) → IsAllOf format b first bytes → (IsBegun rest → ⊥) → RefusesEnd now.whole rest e → RefusesBytes (front_and format b first bytes) e
   decoded_refused e alone none why =
@@ -135,7 +138,7 @@ module _ (format : Format) (b : Bool) (first : ReplicaValue) (count : ℕ) (now 
   abbrev pub read_bytes : List ℕ
   read_bytes = taken_bytes format b first count now (behind ++ read.given) rest is read.taken
 
-  pub read_is_file : IsFile read_bytes format count now.replica
+  abbrev pub read_is_file : IsFile read_bytes format count now.replica
   read_is_file = taken_is_file format b first count now (behind ++ read.given) rest is read.taken
 
   pub read_length : now.whole ≡ length read_bytes
@@ -144,10 +147,11 @@ module _ (format : Format) (b : Bool) (first : ReplicaValue) (count : ℕ) (now 
   pub read_value : IsSnapshot now.replica
   read_value = taken_value format b first count now (behind ++ read.given) rest is read.taken
 
-  pub behind_stored : (v : ReplicaValue) (layout : Layout) → IsTorn rest → (length rest ≤ MOST + HEAD → IsAtEnd after) → IsStored (read_bytes ++ rest) v layout → IfSome before (λ input. IsStored (front_and format b first (behind ++ input)) v layout)
-  behind_stored v layout torn end stored =
-      read_known (λ (t : List ℕ). IsStored (front_and format b first t) v layout) before after behind read.given read.consumed
-      (λ more at. ended_stored format b first count now (behind ++ read.given) rest is read.taken more v layout torn (λ few. no_more after more at (end few)) stored)
+  pub behind_stored : (v : ReplicaValue) (layout : Layout) → IfSome before (λ input. IsAllOf format b first (behind ++ input)) → IsTorn rest → (length rest ≤ MOST + HEAD → IsAtEnd after) → (IsApart read_is_file rest → IsStored (read_bytes ++ rest) v layout)
+      → IfSome before (λ input. IsStored (front_and format b first (behind ++ input)) v layout)
+  behind_stored v layout alone torn end stored =
+      read_all_known (IsAllOf format b first) (λ (t : List ℕ). IsStored (front_and format b first t) v layout) before after behind read.given read.consumed alone
+      (λ more at here. ended_stored format b first count now (behind ++ read.given) rest is read.taken more v layout here torn (λ few. no_more after more at (end few)) stored)
 
   pub behind_refused : (e : Fault) → IfSome before (λ input. IsAllOf format b first (behind ++ input)) → (IsBegun rest → ⊥) → (length rest ≤ MOST + HEAD → IsAtEnd after) → RefusesEnd now.whole rest e → IfSome before (λ input. RefusesBytes (front_and format b first (behind ++ input)) e)
   behind_refused e alone none end why =

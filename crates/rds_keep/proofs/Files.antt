@@ -8,6 +8,7 @@ use Rattle.rds_bytes.proofs.Format.{IsBytes, ok_is}
 use Rattle.rds_codec.specs.FormatTexts.{Snapshot, snapshot_in_at, snapshot_text_in}
 use Rattle.rds_codec.specs.StateTexts.{IsSnapshot, snapshot_text}
 use Rattle.rds_codec.specs.declared.formats.Format.{Format}
+use Rattle.rds_codec.specs.declared.formats.Format.TheVariants.{Two}
 use Rattle.rds_codec.specs.declared.limits.TheConstants.{LIMIT}
 use Rattle.rds_codec.proofs.BothSnapshots.{snapshot_in_reader}
 use Rattle.rds_codec.proofs.Replicas.{state_fits}
@@ -16,13 +17,13 @@ use Rattle.rds_journal.specs.Records.{IsBegun, IsPayload, IsTorn, record_text}
 use Rattle.rds_journal.specs.declared.records.TheConstants.{MOST, HEAD}
 use Rattle.rds_journal.proofs.Format.{length_record, no_text}
 use Rattle.rds_keep.specs.Changes.{ChangeValue}
-use Rattle.rds_keep.specs.Kept.{AreWhole, EndsAs, IsFile, IsKept, IsStored, RefusesBytes, new_layout, records_text}
+use Rattle.rds_keep.specs.Kept.{AreWhole, EndsAs, IsApart, IsFile, IsKept, IsStored, RefusesBytes, new_layout, records_text}
 use Rattle.rds_keep.specs.Replay.{RefusesRest, ReplayValue, TakesRecords}
 use Rattle.rds_keep.specs.Stored.{IsAllOf, IsFirst, IsFront, RefusesEnd, first_and, front_and}
-use Rattle.rds_keep.specs.Sums.{HasOtherSum, file_text, sum_payload, sum_text, summed_text}
+use Rattle.rds_keep.specs.Sums.{CutsSum, HasOtherSum, file_text, sum_payload, sum_text, summed_text}
 use Rattle.rds_keep.specs.declared.layout.Layout.{Layout}
 use Rattle.rds_keep.proofs.Chains.{ends_after, ends_torn}
-use Rattle.rds_keep.proofs.SumTexts.{no_sum_behind, other_behind, same_behind, sum_is_payload}
+use Rattle.rds_keep.proofs.SumTexts.{cut_behind, no_sum_behind, other_behind, same_behind, sum_is_payload}
 
 -- ---- the snapshot at the front
 
@@ -105,7 +106,7 @@ pub stored_ends : (format : Format) (b : Bool) (first : ReplicaValue) (count : �
     → IsStored (front_and format b first behind) w layout → EndsAs first behind w
 stored_ends format b first count behind w layout is alone s = elim (stored_either format b first behind (front_and format b first behind) w layout is.value is.within refl s) [
   | inl same ↦ ends_from format first behind (front_and format b first behind) w layout s (stored_first format b first behind (front_and format b first behind) w layout is.value is.within refl s) same.1
-  | inr sum ↦ absurd (alone sum.0 (stored_rest s) sum.2)
+  | inr sum ↦ absurd ((alone sum.0).0 (stored_rest s) sum.2)
 ]
 
 -- nothing is, where the record of another checksum stands first
@@ -116,6 +117,16 @@ none_summed format first count sum behind w layout is other s =
     let here : HasOtherSum (sha256 text) behind = subst (λ (t : List ℕ). HasOtherSum t behind) is.hash other in
     other_behind s.file.is_summed text behind (stored_rest s) here (λ told more short e. no_sum_stored (first_and format first behind) w layout s told more short e) same.1
 
+-- nor where the rest of a checksum's record is behind it
+pub none_cut : (format : Format) (first : ReplicaValue) (count : ℕ) (sum behind : List ℕ) (w : ReplicaValue) (layout : Layout) → IsFirst format first count sum → CutsSum (snapshot_text_in format first) behind
+    → IsStored (first_and format first behind) w layout → ⊥
+none_cut format first count sum behind w layout is cuts s =
+    let text = snapshot_text_in format first in
+    let both = stored_parts format first behind (first_and format first behind) w layout is.value is.within refl s in
+    let here = cut_behind s.file.is_summed s.file.first.own s.file.changes s.file.first w text s.torn behind refl s.file.made cuts both.1 in
+    let same : text ≡ snapshot_text_in layout.format s.file.first = ap (λ (p : Snapshot). snapshot_text_in p.0 p.1) both.0 in
+    s.apart here.0 here.1 (subst (λ (t : List ℕ). CutsSum t s.torn) same (subst (CutsSum text) here.2 cuts))
+
 abbrev begun : ReplicaValue → ℕ → ReplayValue
 begun first count = record { replica = first; whole = count }
 
@@ -123,10 +134,21 @@ begun first count = record { replica = first; whole = count }
 abbrev taken_text : Format → Bool → ReplicaValue → List ChangeValue → List ℕ
 taken_text format b first changes = summed_text format b first ++ records_text first.own changes
 
+abbrev pub taken_is : (format : Format) (b : Bool) (first : ReplicaValue) (count : ℕ) (now : ReplayValue) (bytes rest : List ℕ) → IsFront format b first count → (taken : TakesRecords (begun first count) now bytes rest)
+    → IsFile (taken_text format b first taken.changes) format count now.replica
+taken_is format b first count now bytes rest is taken =
+    record { first = first; is_summed = b; changes = taken.changes; parts = refl; value = is.value; within = is.within; made = taken.made; size = is.size }
+
+pub taken_apart : (format : Format) (b : Bool) (first : ReplicaValue) (count : ℕ) (now : ReplayValue) (bytes rest : List ℕ) → (is : IsFront format b first count) → (taken : TakesRecords (begun first count) now bytes rest) → IsAllOf format b first bytes
+    → IsApart (taken_is format b first count now bytes rest is taken) rest
+taken_apart format b first count now bytes rest is taken alone = λ unsummed none cuts.
+    let parts : bytes ≡ rest = taken.parts ∙ ap (λ (cs : List ChangeValue). records_text first.own cs ++ rest) none in
+    (alone unsummed).1 (subst (CutsSum (snapshot_text_in format first)) (sym parts) cuts)
+
 pub taken_file : (format : Format) (b : Bool) (first : ReplicaValue) (count : ℕ) (now : ReplayValue) (bytes rest : List ℕ) → IsFront format b first count → (taken : TakesRecords (begun first count) now bytes rest)
     → IsFile (taken_text format b first taken.changes) format count now.replica × (now.whole ≡ length (taken_text format b first taken.changes))
 taken_file format b first count now bytes rest is taken = (
-  record { first = first; is_summed = b; changes = taken.changes; parts = refl; value = is.value; within = is.within; made = taken.made; size = is.size },
+  taken_is format b first count now bytes rest is taken,
   omega (arith, taken.whole, is.size, length-append (summed_text format b first) (records_text first.own taken.changes)),
 )
 
@@ -147,14 +169,15 @@ taken_whole format b first count now bytes rest is taken some =
     )
 
 -- the rest is torn: all is stored
-pub file_stored : (format : Format) (count : ℕ) (v : ReplicaValue) (bytes rest : List ℕ) (layout : Layout) → IsFile bytes format count v → layout.format ≡ format → layout.snapshot ≡ count → layout.whole ≡ length bytes
-    → layout.length ≡ layout.whole + length rest → IsTorn rest → IsStored (bytes ++ rest) v layout
-file_stored format count v bytes rest layout file is_format is_count is_whole is_length torn = record {
+pub file_stored : (v : ReplicaValue) (bytes rest : List ℕ) (layout : Layout) → (file : IsFile bytes layout.format layout.snapshot v) → layout.whole ≡ length bytes → layout.length ≡ layout.whole + length rest → IsTorn rest → IsApart file rest
+    → IsStored (bytes ++ rest) v layout
+file_stored v bytes rest layout file is_whole is_length torn apart = record {
   whole = bytes;
   torn = rest;
   parts = refl;
-  file = subst (λ (f : Format). IsFile bytes f layout.snapshot v) (sym is_format) (subst (λ (n : ℕ). IsFile bytes format n v) (sym is_count) file);
+  file = file;
   end = torn;
+  apart = apart;
   size = is_whole;
   all = omega (arith, is_length, is_whole, length-append bytes rest);
 }
@@ -222,11 +245,14 @@ nothing_torn = record { short = omega arith; few = omega arith; none = none_begu
     none_begun zero begins = no_text begins.0 begins.1 begins.3
     none_begun (suc k) begins = no_text begins.0 begins.1 begins.3
 
+pub nothing_apart : {bytes : List ℕ} {format : Format} {count : ℕ} {v : ReplicaValue} → (file : IsFile bytes format count v) → IsApart file []
+nothing_apart file = λ unsummed none cuts. (let some = cuts.some in omega (arith, some))
+
 pub file_kept : (format : Format) (count : ℕ) (v : ReplicaValue) (bytes : List ℕ) → IsFile bytes format count v → IsKept v
 file_kept format count v bytes file = record {
   bytes = bytes;
   layout = record { format = format; snapshot = count; whole = length bytes; length = length bytes };
-  stored = record { whole = bytes; torn = []; parts = sym (append-nil bytes); file = file; end = nothing_torn; size = refl; all = refl };
+  stored = record { whole = bytes; torn = []; parts = sym (append-nil bytes); file = file; end = nothing_torn; apart = nothing_apart file; size = refl; all = refl };
 }
 
 pub snapshot_kept : (format : Format) (v : ReplicaValue) → IsSnapshot v → length (snapshot_text_in format v) ≤ LIMIT → IsKept v
@@ -238,12 +264,15 @@ snapshot_kept format v is within =
 pub new_file : (v : ReplicaValue) → IsSnapshot v → length (snapshot_text v) ≤ LIMIT → IsStored (file_text v) v (new_layout (length (file_text v)))
 new_file v is within =
     let bytes = file_text v in
+    let file : IsFile bytes Two (length bytes) v =
+    record { first = v; is_summed = true; changes = []; parts = sym (append-nil bytes); value = is; within = within; made = refl; size = refl } in
     record {
       whole = bytes;
       torn = [];
       parts = sym (append-nil bytes);
-      file = record { first = v; is_summed = true; changes = []; parts = sym (append-nil bytes); value = is; within = within; made = refl; size = refl };
+      file = file;
       end = nothing_torn;
+      apart = nothing_apart file;
       size = refl;
       all = refl;
     }

@@ -1,7 +1,7 @@
 -- The snapshot at the front of a file: how it is read, and why not.
 use Rattle.std.proofs.Common.{◌≡◌, ℕ, ◌+◌, ◌-◌, ◌<◌, ◌≤◌, ◌⊎◌, inl, inr, Bool, true, false, cond, List, [], ◌++◌, length, take, drop, Option, Some, None, Result, Ok, Err, refl, sym, ap, ◌∙◌, subst, arith, append_assoc, append-nil, take-append-drop}
 use Rattle.std.specs.Prelude.{IfSome}
-use Rattle.std.specs.Io.KnownBytes.{Consumes}
+use Rattle.std.specs.Io.KnownBytes.{Consumes, IsAtEnd}
 use Rattle.std.proofs.KnownBytes.{Consumes-trans}
 use Rattle.std.proofs.lemmas.Bool.{cases_lt}
 use Rattle.std.proofs.lemmas.List.{length-append, length-take, take-append-le, take_at}
@@ -17,6 +17,7 @@ use Rattle.rds_codec.specs.declared.formats.Format.{Format}
 use Rattle.rds_codec.specs.declared.limits.TheConstants.{LIMIT}
 use Rattle.rds_state.specs.Fits.{ReplicaValue}
 use Rattle.rds_journal.specs.Records.{record_text}
+use Rattle.rds_journal.specs.declared.records.TheConstants.{MOST, HEAD}
 use Rattle.rds_keep.specs.Counted.{most_read}
 use Rattle.rds_keep.specs.Feeding.{AreBytes}
 use Rattle.rds_keep.specs.Kept.{AreWhole, RefusesBytes}
@@ -25,9 +26,9 @@ use Rattle.rds_keep.specs.Parts.{ConsumesAtMost}
 use Rattle.rds_keep.specs.Replay.{HoldsMore}
 use Rattle.rds_keep.specs.Snapshots.{IsForeign, IsMagic, IsShort}
 use Rattle.rds_keep.specs.Stored.{IsAllOf, IsFirst, IsFront, LosesFirst, LosesFront, first_and, front_and}
-use Rattle.rds_keep.specs.Sums.{HasNoSum, HasOtherSum, sum_payload, sum_text, summed_text}
-use Rattle.rds_keep.proofs.Files.{front_is, none_stored, none_summed, read_again}
-use Rattle.rds_keep.proofs.SumTexts.{other_more, sum_length}
+use Rattle.rds_keep.specs.Sums.{CutsSum, HasNoSum, HasOtherSum, sum_payload, sum_text, summed_text}
+use Rattle.rds_keep.proofs.Files.{front_is, none_cut, none_stored, none_summed, read_again}
+use Rattle.rds_keep.proofs.SumTexts.{cut_short, other_more, sum_length}
 use Rattle.rds_keep.proofs.Foreign.{front_bad, front_cut, no_text}
 use Rattle.rds_keep.proofs.Fronts.{magic_is_four}
 
@@ -195,13 +196,29 @@ summed_size format v sum behind rest is parts =
 pub unsummed_parts : (format : Format) (v : ReplicaValue) (behind : List ℕ) → first_and format v behind ≡ front_and format false v behind
 unsummed_parts format v behind = sym (append_assoc (snapshot_text_in format v) [] behind)
 
-pub unsummed_alone : (format : Format) (v : ReplicaValue) (sum behind : List ℕ) → sum ≡ sha256 (snapshot_text_in format v) → HasNoSum sum behind → IsAllOf format false v behind
-unsummed_alone format v sum behind is none = λ e. subst (λ (t : List ℕ). HasNoSum t behind) is none
+-- nor the rest of one, where more stands behind it
+pub no_cut_more : (bytes behind more : List ℕ) → (length behind ≤ MOST + HEAD → more ≡ []) → (CutsSum bytes behind → ⊥) → CutsSum bytes (behind ++ more) → ⊥
+no_cut_more bytes behind more end none cuts =
+    let few : length behind ≤ MOST + HEAD = omega (arith, cut_short bytes (behind ++ more) cuts, length-append behind more) in
+    none (subst (CutsSum bytes) (ap (λ (t : List ℕ). behind ++ t) (end few) ∙ append-nil behind) cuts)
 
 -- that of another does
 pub other_refused : (format : Format) (v : ReplicaValue) (count : ℕ) (sum behind more : List ℕ) (e : Fault) → IsFirst format v count sum → (e ≡ Bad) × HasOtherSum sum behind → RefusesBytes (first_and format v (behind ++ more)) e
 other_refused format v count sum behind more e is other =
     rw (other.0) (λ w layout s. none_summed format v count sum (behind ++ more) w layout is (other_more sum behind more other.1) s)
+
+-- the rest of one does
+pub cut_refused : (format : Format) (v : ReplicaValue) (count : ℕ) (sum behind more : List ℕ) → IsFirst format v count sum → CutsSum (snapshot_text_in format v) behind → (length behind ≤ MOST + HEAD → more ≡ [])
+    → RefusesBytes (first_and format v (behind ++ more)) Bad
+cut_refused format v count sum behind more is cuts end =
+    let few : length behind ≤ MOST + HEAD = omega (arith, cut_short (snapshot_text_in format v) behind cuts) in
+    let same : behind ++ more ≡ behind = ap (λ (t : List ℕ). behind ++ t) (end few) ∙ append-nil behind in
+    subst (λ (t : List ℕ). RefusesBytes (first_and format v t) Bad) (sym same) (λ w layout s. none_cut format v count sum behind w layout is cuts s)
+
+-- what holds where no more is behind few bytes holds of all that a reader gives
+pub known_end : {P : List ℕ → Type 0} (known : Option (List ℕ)) (count : ℕ) → (count ≤ MOST + HEAD + 69 → IsAtEnd known) → ((input : List ℕ) → (count ≤ MOST + HEAD → input ≡ []) → P input) → IfSome known P
+known_end None count end each = tt
+known_end (Some input) count end each = each input (λ few. end (omega (arith, few)))
 
 -- a front is a snapshot, and its checksum is behind it
 front_parts : (format : Format) (b : Bool) (v : ReplicaValue) (behind : List ℕ) → front_and format b v behind ≡ first_and format v (sum_text b (snapshot_text_in format v) ++ behind)

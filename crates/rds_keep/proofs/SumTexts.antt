@@ -10,7 +10,7 @@ use Rattle.rds_journal.specs.declared.records.TheConstants.{MOST, HEAD}
 use Rattle.rds_journal.proofs.Format.{length_record}
 use Rattle.rds_keep.specs.Changes.{ChangeValue, change_text, front_text}
 use Rattle.rds_keep.specs.Kept.{AreMade, records_text}
-use Rattle.rds_keep.specs.Sums.{HasNoSum, HasOtherSum, sum_payload, sum_text}
+use Rattle.rds_keep.specs.Sums.{CutsSum, HasNoSum, HasOtherSum, sum_payload, sum_text}
 use Rattle.rds_keep.proofs.Chains.{first_record_of, not_torn, same_first}
 
 -- ---- such a record
@@ -94,3 +94,22 @@ other_payload_sum sum bytes payload behind more short short2 parts other rest e 
     let all : bytes ++ more ≡ record_text payload ++ (behind ++ more) = ap (λ (t : List ℕ). t ++ more) parts ∙ append_assoc (record_text payload) behind more in
     let same = same_first payload (behind ++ more) (sum_payload sum) rest short2 short (sym all ∙ e) in
     other same.0
+
+-- ---- the rest of such a record
+
+-- it is shorter than one
+pub cut_short : (bytes behind : List ℕ) → CutsSum bytes behind → length behind < 69
+cut_short bytes behind cuts =
+    let inside = cuts.inside in
+    let size = cuts.size in
+    omega (arith, inside, size, ap length cuts.parts, length-append bytes behind, length-append cuts.before (record_text (sum_payload cuts.told)), length_record (sum_payload cuts.told))
+
+-- no record is behind the snapshot then, and that has none of its checksum
+pub cut_behind : (b : Bool) (own : ℕ) (changes : List ChangeValue) (old new : ReplicaValue) (bytes torn behind : List ℕ) → own ≡ old.own → AreMade old changes new → CutsSum bytes behind
+    → behind ≡ sum_text b bytes ++ (records_text own changes ++ torn) → (b ≡ false) × (changes ≡ []) × (behind ≡ torn)
+cut_behind true own changes old new bytes torn behind is made cuts parts =
+    absurd (cuts.none (sum_payload (sha256 bytes), records_text own changes ++ torn, sum_is_payload bytes, parts))
+cut_behind false own [] old new bytes torn behind is made cuts parts = (refl, refl, parts)
+cut_behind false own (c ∷ changes) old new bytes torn behind is made cuts parts =
+    let payload : IsPayload (change_text own c) = subst (λ (n : ℕ). IsPayload (change_text n c)) (sym is) made.2 in
+    absurd (cuts.none (change_text own c, records_text own changes ++ torn, payload, parts ∙ first_record_of own c changes torn))

@@ -1,6 +1,6 @@
 -- What a file holds: a snapshot, its checksum, records of changes behind them, and a torn end; and which replicas can be
 -- kept.
-use Rattle.std.specs.Prelude.{◌≡◌, ◌<◌, ◌≤◌, ℕ, Bool, List, [], ◌∷◌, ◌++◌, length, map, take, Err}
+use Rattle.std.specs.Prelude.{◌≡◌, ◌<◌, ◌≤◌, ℕ, Bool, false, List, [], ◌∷◌, ◌++◌, length, map, take, Err}
 use Rattle.rds_names.specs.declared.fault.Fault.{Fault}
 use Rattle.rds_names.specs.declared.fault.Fault.TheVariants.{Memory, Cut, Bad, TooLong, Device}
 use Rattle.rds_state.specs.Fits.{ReplicaValue}
@@ -11,7 +11,7 @@ use Rattle.rds_codec.specs.declared.formats.Format.TheVariants.{Two}
 use Rattle.rds_codec.specs.declared.limits.TheConstants.{LIMIT}
 use Rattle.rds_journal.specs.Records.{IsPayload, IsTorn, journal_text}
 use Rattle.rds_keep.specs.Changes.{ChangeValue, IsRedone, change_text}
-use Rattle.rds_keep.specs.Sums.{summed_text}
+use Rattle.rds_keep.specs.Sums.{CutsSum, summed_text}
 use Rattle.rds_keep.specs.declared.layout.Layout.{Layout}
 
 -- the records of changes that a replica of this number took
@@ -36,6 +36,11 @@ pub record IsFile (bytes : List ℕ) (format : Format) (snapshot : ℕ) (v : Rep
   pub made : AreMade first changes v
   pub size : snapshot ≡ length (summed_text format is_summed first)
 
+-- where its snapshot has no checksum, and no record is behind that, a torn end isn't the rest of one
+abbrev pub IsApart : {bytes : List ℕ} {format : Format} {count : ℕ} {v : ReplicaValue} → IsFile bytes format count v → List ℕ → Type 0
+IsApart {format = format} file torn =
+    file.is_summed ≡ false → file.changes ≡ [] → CutsSum (snapshot_text_in format file.first) torn → ⊥
+
 -- the same with a torn end, which may be empty, and where these parts stand
 pub record IsStored (bytes : List ℕ) (v : ReplicaValue) (layout : Layout) : Type 0 where
   pub whole : List ℕ
@@ -43,6 +48,7 @@ pub record IsStored (bytes : List ℕ) (v : ReplicaValue) (layout : Layout) : Ty
   pub parts : bytes ≡ whole ++ torn
   pub file : IsFile whole layout.format layout.snapshot v
   pub end : IsTorn torn
+  pub apart : IsApart file torn
   pub size : layout.whole ≡ length whole
   pub all : layout.length ≡ length bytes
 

@@ -10,7 +10,7 @@ use Rattle.rds_codec.specs.StateTexts.{IsSnapshot}
 use Rattle.rds_codec.specs.declared.formats.Format.{Format}
 use Rattle.rds_codec.specs.declared.limits.TheConstants.{LIMIT}
 use Rattle.rds_journal.specs.Records.{IsTorn}
-use Rattle.rds_keep.specs.Sums.{HasNoSum, summed_text}
+use Rattle.rds_keep.specs.Sums.{CutsSum, HasNoSum, summed_text}
 
 -- a snapshot of so many bytes in a format, within the limit, and their checksum
 pub record IsFirst (format : Format) (v : ReplicaValue) (count : ℕ) (sum : List ℕ) : Type 0 where
@@ -33,9 +33,11 @@ pub record IsFront (format : Format) (is_summed : Bool) (v : ReplicaValue) (coun
 abbrev pub front_and : Format → Bool → ReplicaValue → List ℕ → List ℕ
 front_and format is_summed v behind = summed_text format is_summed v ++ behind
 
--- where a snapshot has no record of its checksum, none stands behind it
+-- where a snapshot has no record of its checksum, none stands behind it, nor the rest of one
 abbrev pub IsAllOf : Format → Bool → ReplicaValue → List ℕ → Type 0
-IsAllOf format is_summed v behind = is_summed ≡ false → HasNoSum (sha256 (snapshot_text_in format v)) behind
+IsAllOf format is_summed v behind =
+    is_summed ≡ false
+    → HasNoSum (sha256 (snapshot_text_in format v)) behind × (CutsSum (snapshot_text_in format v) behind → ⊥)
 
 -- known bytes lose a beginning, which is a snapshot and what is behind it
 pub record LosesFirst (before after : Option (List ℕ)) (format : Format) (v : ReplicaValue) (behind : List ℕ) : Type 0 where

@@ -10,7 +10,7 @@ use Rattle.rds_state.specs.Fits.{ReplicaValue}
 use Rattle.rds_codec.specs.FormatTexts.{snapshot_text_in}
 use Rattle.rds_codec.specs.declared.formats.Format.{Format}
 use Rattle.rds_codec.specs.declared.formats.Format.TheVariants.{Two}
-use Rattle.rds_journal.specs.Records.{IsPayload, record_text}
+use Rattle.rds_journal.specs.Records.{IsBegun, IsPayload, record_text}
 
 -- the payload of a record with this checksum
 abbrev pub sum_payload : List ℕ → List ℕ
@@ -47,3 +47,13 @@ pub record HasOtherSum (sum bytes : List ℕ) : Type 0 where
   pub parts : bytes ≡ record_text (sum_payload told) ++ rest
   pub payload : IsPayload (sum_payload told)
   pub other : told ≡ sum → ⊥
+
+-- what stands behind a snapshot of these bytes is no record, but the rest of a checksum's, which begins inside of them
+pub record CutsSum (bytes behind : List ℕ) : Type 0 where
+  pub before : List ℕ
+  pub told : List ℕ
+  pub parts : bytes ++ behind ≡ before ++ record_text (sum_payload told)
+  pub size : length told ≡ 32
+  pub inside : length before < length bytes
+  pub some : 0 < length behind
+  pub none : IsBegun behind → ⊥

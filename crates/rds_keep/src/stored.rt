@@ -1,6 +1,6 @@
 //! What a file holds: a snapshot, records of changes, and a torn end.
 ghost use Rattle.std.specs.Prelude.{◌≡◌, ◌≢◌, ◌≤◌, ◌<◌, ◌-◌, ◌+◌, ◌++◌, ◌⊎◌, List, [], ℕ, length, take, Err};
-ghost use Rattle.std.specs.Prelude.{IfOk, IfErr, IfSome, OnOk, MatchResult};
+ghost use Rattle.std.specs.Prelude.{IfOk, IfErr, IfSome, IsFalse, IsTrue, OnOk, MatchResult};
 ghost use Rattle.std.specs.Io.KnownBytes.{IsAtEnd};
 ghost use Rattle.sha2.specs.Hashers.{Holds256};
 ghost use Rattle.sha2.specs.Sha256.{sha256};
@@ -12,10 +12,11 @@ ghost use Rattle.rds_codec.specs.declared.limits.TheConstants.{LIMIT};
 ghost use Rattle.rds_journal.specs.Records.{IsTorn};
 ghost use Rattle.rds_journal.specs.declared.records.TheConstants.{MOST, HEAD};
 ghost use Rattle.rds_keep.specs.Counted.{HasFailed, most_read};
-ghost use Rattle.rds_keep.specs.Kept.{AreWhole, IsFile, IsStored, RefusesBytes};
+ghost use Rattle.rds_keep.specs.Kept.{AreWhole, IsApart, IsFile, IsStored, RefusesBytes};
 ghost use Rattle.rds_keep.specs.Parts.{ConsumesAtMost};
 ghost use Rattle.rds_keep.specs.Snapshots.{IsForeign};
 ghost use Rattle.rds_keep.specs.Stored.{IsAllOf, IsFirst, IsFront, LosesFirst, LosesFront, RefusesEnd, first_and, front_and};
+ghost use Rattle.rds_keep.specs.Sums.{CutsSum};
 ghost use Rattle.rds_keep.specs.declared.sums.TheConstants.{SUM_LENGTH};
 
 use crate::counted::Counted;
@@ -24,8 +25,8 @@ use crate::layout::Layout;
 use crate::leading::{Leading, decode_leading, hold_bytes};
 use crate::replay::{Replay, hold_more};
 use crate::snapshots::read_magic;
-use crate::sums::{SUM_LENGTH, behind_sum};
-use rds_codec::{Format, LIMIT, unfinished_snapshot};
+use crate::sums::{SUM_LENGTH, behind_sum, cuts_sum, may_cut_sum};
+use rds_codec::{Format, LIMIT, encode_snapshot_in, unfinished_snapshot};
 use rds_dots::DotSet;
 use rds_journal::is_torn;
 use rds_names::Fault;
@@ -150,6 +151,22 @@ fn read_first<S: DotSet, R: Read>(
 }
 
 impl<S: DotSet> First<S> {
+    // Whether what is behind it is the rest of a checksum's record that begins inside of it.
+    fn cuts_sum(&self, alloc: Global, behind: &[u8]) -> Result<bool, Fault>
+        requires first { IsFirst self.now.format self.now.replica self.now.length self.now.sum }
+        ensures found { IfOk result (λ cuts. IsTrue cuts
+            → CutsSum (snapshot_text_in self.now.format self.now.replica) behind.now) }
+        ensures none { IfOk result (λ cuts. IsFalse cuts
+            → CutsSum (snapshot_text_in self.now.format self.now.replica) behind.now → ⊥) }
+        ensures fault { IfErr result (λ e. e ≡ Memory) }
+    {
+        if !may_cut_sum(behind) {
+            return Ok(false);
+        }
+        let bytes = encode_snapshot_in(alloc, self.format, &self.replica)?;
+        Ok(cuts_sum(bytes, behind)?)
+    }
+
     // With the record of the checksum behind it, or without.
     fn into_front(self, is_summed: bool) -> Front<S>
         requires first { IsFirst self.format self.replica self.length self.sum }
@@ -182,8 +199,13 @@ impl<S: DotSet> First<S> {
     }
 }
 
-// Takes the record of a snapshot's checksum, where it stands first behind it. Refuses `Bad` where that of another does.
-fn take_sum<S: DotSet>(first: First<S>, behind: &[u8]) -> Result<(Front<S>, &[u8]), Fault>
+// Takes the record of a snapshot's checksum, where it stands first behind it. Refuses `Bad` where that of another does,
+// and where the rest of one does that begins inside of the snapshot.
+fn take_sum<S: DotSet>(
+    alloc: Global,
+    first: First<S>,
+    behind: &[u8],
+) -> Result<(Front<S>, &[u8]), Fault>
     requires first { IsFirst first.format first.replica first.length first.sum }
     ensures parts { IfOk result (λ x. first_and first.format first.replica behind.now
         ≡ front_and x.0.format x.0.is_summed x.0.replica x.1.now) }
@@ -191,14 +213,17 @@ fn take_sum<S: DotSet>(first: First<S>, behind: &[u8]) -> Result<(Front<S>, &[u8
     ensures size { IfOk result (λ x. length behind.now ≤ length x.1.now + SUM_LENGTH) }
     ensures alone { IfOk result (λ x. (more : List ℕ) → (length behind.now ≤ MOST + HEAD → more ≡ [])
         → IsAllOf x.0.format x.0.is_summed x.0.replica (x.1.now ++ more)) }
-    ensures refused { IfErr result (λ e. (more : List ℕ)
+    ensures refused { IfErr result (λ e. (more : List ℕ) → (length behind.now ≤ MOST + HEAD → more ≡ [])
         → RefusesBytes (first_and first.format first.replica (behind.now ++ more)) e) }
-    ensures fault { IfErr result (λ e. e ≡ Bad) }
+    ensures fault { IfErr result (λ e. (e ≡ Memory) ⊎ (e ≡ Bad)) }
 {
-    match behind_sum(&first.sum, behind)? {
-        Some(rest) => Ok((first.into_front(true), rest)),
-        None => Ok((first.into_front(false), behind)),
+    if let Some(rest) = behind_sum(&first.sum, behind)? {
+        return Ok((first.into_front(true), rest));
     }
+    if first.cuts_sum(alloc, behind)? {
+        return Err(Fault::Bad);
+    }
+    Ok((first.into_front(false), behind))
 }
 
 // Reads the snapshot that all that the reader holds begins with, the record of its checksum where it has one, and some
@@ -226,7 +251,7 @@ fn read_front<S: DotSet, R: Read>(
     ensures renamed { reader.new.renamed ≡ reader.old.renamed }
 {
     let (first, behind) = read_first(alloc, reader)?;
-    let (front, rest) = take_sum(first, &behind)?;
+    let (front, rest) = take_sum(alloc, first, &behind)?;
     let rest = Vec::from_slice(alloc, rest)?;
     Ok((front, rest))
 }
@@ -240,8 +265,9 @@ fn ended<S: DotSet>(
 ) -> Result<Stored<S>, Refused>
     requires value { IsSnapshot replay.replica }
     requires file { (bytes : List ℕ) × IsFile bytes format snapshot replay.replica × (replay.whole ≡ length bytes) }
-    ensures stored { (bytes : List ℕ) → IsFile bytes format snapshot replay.replica
-        → replay.whole ≡ length bytes → IfOk result (λ s. IsStored (bytes ++ rest.now) s.kept s.layout) }
+    ensures stored { (bytes : List ℕ) → (file : IsFile bytes format snapshot replay.replica)
+        → replay.whole ≡ length bytes
+        → IfOk result (λ s. IsApart file rest.now → IsStored (bytes ++ rest.now) s.kept s.layout) }
     ensures value { IfOk result (λ s. IsSnapshot s.kept) }
     ensures torn { OnOk result (IsTorn rest.now) }
     ensures at { IfErr result (λ r. r.at ≡ replay.whole) }
@@ -379,7 +405,7 @@ fn decode_front<S: DotSet>(alloc: Global, bytes: &[u8]) -> Result<(Front<S>, &[u
     ensures fault { IfErr result IsOtherFault }
 {
     let (first, behind) = decode_first(alloc, bytes)?;
-    take_sum(first, behind)
+    take_sum(alloc, first, behind)
 }
 
 // The records behind a front.

@@ -22,7 +22,7 @@ returns-in-Ok-clause-stored g c =
     let front = c.args.front in
     let taken = rw c.of-replay.ensures at c.in-Ok.ensures.taken in
     let stored = c.ended.ensures.stored (taken_bytes front.format front.is_summed front.replica front.length c.take_records.new.self c.args.behind.now c.in-Ok.rest.now c.requires.front taken) (taken_is_file front.format front.is_summed front.replica front.length c.take_records.new.self c.args.behind.now c.in-Ok.rest.now c.requires.front taken) (taken_length front.format front.is_summed front.replica front.length c.take_records.new.self c.args.behind.now c.in-Ok.rest.now c.requires.front taken) in
-    ok_then c.ended.result stored (λ s has. decoded_stored front.format front.is_summed front.replica front.length c.take_records.new.self c.args.behind.now c.in-Ok.rest.now c.requires.front taken s.kept s.layout has)
+    ok_then c.ended.result stored (λ s has. decoded_stored front.format front.is_summed front.replica front.length c.take_records.new.self c.args.behind.now c.in-Ok.rest.now c.requires.front taken s.kept s.layout c.requires.alone has)
 
 pub returns-in-Ok-clause-refused : goal.returns-in-Ok-clause-refused
 returns-in-Ok-clause-refused g c =

@@ -15,4 +15,4 @@ returns-clause-refused g c =
     let behind = c.in_ok-first.behind.now in
     err_then c.take_sum.result c.take_sum.ensures.refused
     (λ e why. subst (λ (t : List ℕ). RefusesBytes t e) (sym c.in_ok-first.ensures.parts)
-    (subst (λ (t : List ℕ). RefusesBytes (first_and first.format first.replica t) e) (append-nil behind) (why [])))
+    (subst (λ (t : List ℕ). RefusesBytes (first_and first.format first.replica t) e) (append-nil behind) (why [] (λ few. refl))))

@@ -28,7 +28,7 @@ returns-in-Ok-clause-stored g c =
     let read = rw c.of-replay.ensures at c.in-Ok.ensures.read in
     let stored = rw c.deref.ensures.value at (c.ended.ensures.stored (read_bytes front.format front.is_summed front.replica front.length c.read_records.new.self (g.R.Read.remaining c.args.reader.now.inner) (g.R.Read.remaining c.read_records.new.reader.inner) c.args.behind.items c.in-Ok.rest.items c.requires.front read) (read_is_file front.format front.is_summed front.replica front.length c.read_records.new.self (g.R.Read.remaining c.args.reader.now.inner) (g.R.Read.remaining c.read_records.new.reader.inner) c.args.behind.items c.in-Ok.rest.items c.requires.front read) (read_length front.format front.is_summed front.replica front.length c.read_records.new.self (g.R.Read.remaining c.args.reader.now.inner) (g.R.Read.remaining c.read_records.new.reader.inner) c.args.behind.items c.in-Ok.rest.items c.requires.front read)) in
     let torn = rw c.deref.ensures.value at c.ended.ensures.torn in
-    ok_on c.ended.result stored torn (λ s has ends. behind_stored front.format front.is_summed front.replica front.length c.read_records.new.self (g.R.Read.remaining c.args.reader.now.inner) (g.R.Read.remaining c.read_records.new.reader.inner) c.args.behind.items c.in-Ok.rest.items c.requires.front read s.kept s.layout ends c.in-Ok.ensures.end has)
+    ok_on c.ended.result stored torn (λ s has ends. behind_stored front.format front.is_summed front.replica front.length c.read_records.new.self (g.R.Read.remaining c.args.reader.now.inner) (g.R.Read.remaining c.read_records.new.reader.inner) c.args.behind.items c.in-Ok.rest.items c.requires.front read s.kept s.layout c.requires.alone ends c.in-Ok.ensures.end has)
 
 pub returns-in-Ok-clause-end : goal.returns-in-Ok-clause-end
 returns-in-Ok-clause-end g c =

@@ -1,9 +1,8 @@
-use Rattle.std.proofs.Common.{◌++◌}
+use Rattle.std.proofs.Common.{◌++◌, length}
 use Rattle.std.proofs.lemmas.Result.{err_from_is_err_and}
 use Rattle.rds_keep.specs.Kept.{RefusesBytes}
 use Rattle.rds_keep.specs.Stored.{first_and}
-use Rattle.rds_keep.proofs.FirstParts.{lost_first}
-use Rattle.rds_keep.proofs.ReadWhole.{each_known}
+use Rattle.rds_keep.proofs.FirstParts.{known_end, lost_first}
 use Rattle.rds_keep.proofs.stored.read_front.Goals as goal
 
 pub returns-in_err-front-clause-refused : goal.returns-in_err-front-clause-refused
@@ -14,4 +13,4 @@ returns-in_err-front-clause-refused g c =
     let e = c.in_err-front.field-0.0 in
     let why = rw c.deref.ensures.value at c.in_err-front.ensures.refused in
     rw (p.1, p.2) (lost_first (λ input. RefusesBytes input e) (g.R.Read.remaining c.args.reader.now.inner) (g.R.Read.remaining c.read_first.new.reader.inner) first.format first.replica behind c.in_ok-first.ensures.loses
-    (each_known {P = λ input. RefusesBytes (first_and first.format first.replica (behind ++ input)) e} (g.R.Read.remaining c.read_first.new.reader.inner) (λ input. why input)))
+    (known_end {P = λ input. RefusesBytes (first_and first.format first.replica (behind ++ input)) e} (g.R.Read.remaining c.read_first.new.reader.inner) (length behind) c.in_ok-first.ensures.end (λ input at_end. why input at_end)))
