@@ -1,7 +1,8 @@
-"""A plain model of a document, its texts, files and sessions: docs/MODEL.md and docs/FORMATS.md in a few lines of Python.
+"""A plain model of a document, its texts, files and sessions: docs/MODEL.md and docs/FORMATS.md in a few lines of
+Python.
 
-`bench/random`, `bench/records`, `bench/power` and others compare the program with it. It is written from these two pages alone, over
-sets and dictionaries. Texts are read and written in both formats; where none is named it is format 2.
+`bench/random`, `bench/records`, `bench/power` and others compare the program with it. It is written from these two
+pages alone, over sets and dictionaries. Texts are read and written in both formats; where none is named it is format 2.
 """
 import collections
 import hashlib
