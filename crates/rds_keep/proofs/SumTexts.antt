@@ -1,6 +1,6 @@
 -- The record of a checksum behind a snapshot: what stands first there, and what doesn't.
-use Rattle.std.proofs.Common.{◌≡◌, ℕ, ◌+◌, ◌<◌, ◌≤◌, ◌⊎◌, inl, inr, Bool, true, false, List, [], ◌∷◌, ◌++◌, length, get_or, Option, Some, None, refl, sym, ap, ◌∙◌, subst, arith, append_assoc}
-use Rattle.std.proofs.lemmas.List.{length-append}
+use Rattle.std.proofs.Common.{◌≡◌, ℕ, ◌+◌, ◌-◌, ◌<◌, ◌≤◌, ◌⊎◌, inl, inr, Bool, true, false, List, [], ◌∷◌, ◌++◌, length, take, drop, get_or, Option, Some, None, refl, sym, ap, ◌∙◌, subst, arith, append_assoc, append-nil, take-append-drop}
+use Rattle.std.proofs.lemmas.List.{drop_at, length-append, length-drop, length-take, take_at}
 use Rattle.sha2.specs.Sha256.{sha256}
 use Rattle.sha2.proofs.Facts256.{length-sha256}
 use Rattle.rds_names.specs.Roster.{RosterValue}
@@ -113,3 +113,38 @@ cut_behind false own [] old new bytes torn behind is made cuts parts = (refl, re
 cut_behind false own (c ∷ changes) old new bytes torn behind is made cuts parts =
     let payload : IsPayload (change_text own c) = subst (λ (n : ℕ). IsPayload (change_text n c)) (sym is) made.2 in
     absurd (cuts.none (change_text own c, records_text own changes ++ torn, payload, parts ∙ first_record_of own c changes torn))
+
+-- a slice up to the end
+pub slice_end : (bytes : List ℕ) (at : ℕ) → take (length bytes - at) (drop at bytes) ≡ drop at bytes
+slice_end bytes at = sym (ap (take (length bytes - at)) (append-nil (drop at bytes))) ∙ take_at (drop at bytes) [] (length bytes - at) (length-drop at bytes)
+
+-- the end of the bytes of both is such a record, or isn't
+module _ (bytes behind all : List ℕ) (at : ℕ) (both : all ≡ bytes ++ behind) (size : at + 69 ≡ length all) where
+  pub cut_found : 0 < length behind → length behind < 69 → (IsBegun behind → ⊥) → (told : List ℕ) × (length told ≡ 32) × (drop at all ≡ record_text (sum_payload told)) → CutsSum bytes behind
+  cut_found some few none found = record {
+    before = take at all;
+    told = found.0;
+    parts = sym both ∙ sym (take-append-drop at all) ∙ ap (λ (t : List ℕ). take at all ++ t) found.2;
+    size = found.1;
+    inside = omega (arith, size, few, ap length both, length-append bytes behind, length-take at all);
+    some = some;
+    none = none;
+  }
+
+  pub cut_none : ((told : List ℕ) → length told ≡ 32 → drop at all ≡ record_text (sum_payload told) → ⊥) → CutsSum bytes behind → ⊥
+  cut_none none cuts =
+      let text = record_text (sum_payload cuts.told) in
+      let count = cuts.size in
+      let parts : all ≡ cuts.before ++ text = both ∙ cuts.parts in
+      let here : length cuts.before ≡ at = omega (arith, count, size, ap length parts, length-append cuts.before text, length_record (sum_payload cuts.told)) in
+      none cuts.told cuts.size (ap (drop at) parts ∙ drop_at cuts.before text at here)
+
+pub cut_few : (bytes behind : List ℕ) → length bytes + length behind < 69 → CutsSum bytes behind → ⊥
+cut_few bytes behind few cuts =
+    let size = cuts.size in
+    omega (arith, few, size, ap length cuts.parts, length-append bytes behind, length-append cuts.before (record_text (sum_payload cuts.told)), length_record (sum_payload cuts.told))
+
+-- bytes that are such a record begin with no other
+pub sum_alone : (bytes payload rest told : List ℕ) → IsPayload payload → bytes ≡ record_text payload ++ rest → length told ≡ 32 → bytes ≡ record_text (sum_payload told) → (payload ≡ sum_payload told) × (rest ≡ [])
+sum_alone bytes payload rest told short parts size e =
+    same_first payload rest (sum_payload told) [] short (omega (arith, size)) (sym parts ∙ e ∙ sym (append-nil (record_text (sum_payload told))))
