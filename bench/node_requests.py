@@ -367,6 +367,34 @@ def judge_tags(node):
     noted.end()
 
 
+def judge_matches(node):
+    """Edits and growths that are wanted only where the document is as it was seen: 412 where it has another tag."""
+    noted, edit = Noted(), b'["inc","matched",1]\n'
+    mark = lambda: node.status()["mark"]
+    with node.link() as link:
+        asked = lambda target, body, *lines: link.answer(node.text("POST", target, body, *lines))
+        tag, old = f'"{mark()}"', f'"{"0" * 32}"'
+        for shown in old, f"W/{tag}", tag[1:-1], f"{old}, W/{tag}", '"*"', "":
+            for target, body in ("/edits", edit), ("/edits", b"oops"), ("/grow", b"matched"):
+                answer = asked(target, body, f"If-Match: {shown}")
+                with noted:
+                    judge(f"{target} if {shown}", answer, '412 json {"status":412,"text":"the document has another tag"}')
+                    want(f'"{mark()}"' == tag, f"after {target} if {shown} the document is another")
+        for values in ["NOW"], ["*"], [f"{old} , NOW"], [old, "NOW"], ["NOW,"]:
+            now = f'"{mark()}"'
+            lines = ["If-Match: " + value.replace("NOW", now) for value in values]
+            grown, edited = asked("/grow", b"a", *lines), asked("/edits", edit, *lines)
+            with noted:
+                judge(f"/grow with {lines}", grown, '400 json {"fault":6,"name":"BadRoster","text":".."}')
+                judge(f"/edits with {lines}", edited, '200 x-ndjson {"dot":null,"killed":0}|')
+        for method, target in ("GET", "/doc"), ("POST", "/answer"):
+            due = link.answer(node.text(method, target, b"oops" if method == "POST" else None)).status
+            answer = link.answer(node.text(method, target, b"oops" if method == "POST" else None, f"If-Match: {old}"))
+            with noted:
+                want(answer.status == due, f"{method} {target} if {old} is answered {answer}")
+    noted.end()
+
+
 # Names that a node of the group a, b is given, one after the other, and what each is due to be answered.
 DONE = '200 json {"ok":true}'
 NO_NAME = '400 json {"fault":2,"name":"BadName","text":".."}'
@@ -610,7 +638,7 @@ def try_requests(asked, folder):
     noted, node = Noted(), Node(asked.program, folder)
     with running(node):
         comers = lambda node: judge_comers(node, MAY_COME)
-        tags = judge_tags, judge_ask_tags
+        tags = judge_tags, judge_matches, judge_ask_tags
         texts = judge_pieces, judge_lines, judge_texts, judge_tagged
         for part in judge_table, judge_heads, judge_pipes, *texts, *tags, comers, stop_and_go_on:
             with noted:
