@@ -49,6 +49,10 @@ GET /doc/1/2/3/4/5/6/7/8/9
   400 json {"fault":4,"name":"BadPath","text":".."}
 POST /edits ["set","",1]|oops|["del","apples/tags","red"]|
   200 x-ndjson {"fault":4,"name":"BadPath","line":1}|{"fault":25,"name":"BadLine","line":2}|{"dot":null,"killed":1}|
+POST /edits ["set","",1]||oops|
+  400 x-ndjson {"fault":4,"name":"BadPath","line":1}|{"fault":25,"name":"BadLine","line":3}|
+POST /edits oops|["del","apples/tags","blue"]
+  200 x-ndjson {"fault":25,"name":"BadLine","line":1}|{"dot":null,"killed":0}|
 POST /edits
   200 x-ndjson
 GET /conflicts
@@ -206,7 +210,7 @@ def judge_heads(node):
     want("default-src 'none'" in policy, f"the page has the policy {policy}")
     head = node.answer("HEAD", "/")
     want(head.headers == page.headers, f"HEAD / has {head.headers}, and GET / {page.headers}")
-    due = {"rds_edits_total": 5, "rds_edits_refused_total": 2, "rds_live_entries": 2, "rds_peers": 0, "rds_peers_met": 0}
+    due = {"rds_edits_total": 6, "rds_edits_refused_total": 5, "rds_live_entries": 2, "rds_peers": 0, "rds_peers_met": 0}
     for name, number in due.items():
         want(node.count(name) == number, f"{name} is {node.count(name)}, where {number} is due")
 

@@ -147,7 +147,7 @@ fn words_in(printed: &[u8], fault: Fault) -> &[u8]
 }
 
 /// The status by which a fault of the document is answered.
-fn status_of(fault: Fault) -> StatusCode
+pub fn status_of(fault: Fault) -> StatusCode
     ensures { result ≡ status_of fault }
 {
     match fault {
