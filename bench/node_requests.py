@@ -141,11 +141,16 @@ MAY_COME_WITH_TOKEN = """
 401 POST /edits | Authorization: Bearer
 401 POST /edits | Authorization: Bearer 0123456789abcdef-._
 401 POST /edits | Authorization: Basic TOKEN
+401 POST /edits | Authorization: Bearers TOKEN
+401 POST /edits | Authorization: bearer TOKENx
+401 POST /edits | Authorization: bearerTOKEN
 401 GET /live | Cookie: a=b | UPGRADE
 403 POST /edits | Authorization: Bearer TOKEN | Origin: http://example.org
 403 POST /login | Origin: http://example.org
 403 POST /grow | Authorization: Bearer TOKEN | Origin: http://example.org
 200 POST /edits | Authorization: Bearer TOKEN
+200 POST /edits | Authorization: bearer TOKEN
+200 POST /edits | Authorization: BEARER TOKEN
 400 POST /grow | Authorization: Bearer TOKEN
 200 GET /snapshot | Authorization: Bearer TOKEN
 200 POST /edits | Cookie: a=b; rds_PORT=TOKEN; c=d
