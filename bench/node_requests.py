@@ -249,7 +249,7 @@ def judge_pipes(node):
 
 
 def of_length(node, length):
-    """A request to edit that is so long as a whole. Its one line edits nothing."""
+    """A request to edit that is so long as a whole. Its one line is refused."""
     body = b" " * max(length * 7 // 8, length - 8_000)
     return node.text("POST", "/edits", body, "x: " + "y" * (length - len(node.text("POST", "/edits", body, "x: "))))
 
@@ -269,7 +269,7 @@ def judge_pieces(node):
             text = of_length(node, length)
             want(len(text) == length, f"a request of {length} bytes has {len(text)}")
             statuses = [link.answer(text).status, link.answer(text + first).status, link.answer().status]
-            want(statuses == [200] * 3, f"requests of {length} bytes are answered {statuses}")
+            want(statuses == [400, 400, 200], f"requests of {length} bytes are answered {statuses}")
     for cut, late in itertools.product([0, 1, len(second) - 1], [0, 0.05]):
         with node.link() as link:
             link.socket.sendall(first + second[:cut])
