@@ -29,7 +29,7 @@ returns-in-Ok-clause-answered g c =
 pub returns-in-Ok-clause-refused : goal.returns-in-Ok-clause-refused
 returns-in-Ok-clause-refused g c = λ other.
     c.in-Ok.ensures.refused
-    (all_refused_by c.in-Ok.replies.items c.deref-2.result.now c.tell_replies.new.response.status c.deref-2.ensures.value
+    (all_refused_by c.in-Ok.replies.items c.deref-in-Ok.result.now c.tell_replies.new.response.status c.deref-in-Ok.ensures.value
     c.tell_replies.ensures.status other)
 
 pub returns-in-Err-clause-answered : goal.returns-in-Err-clause-answered
