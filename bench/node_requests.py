@@ -49,6 +49,10 @@ GET /doc/1/2/3/4/5/6/7/8/9
   400 json {"fault":4,"name":"BadPath","text":".."}
 POST /edits ["set","",1]|oops|["del","apples/tags","red"]|
   200 x-ndjson {"fault":4,"name":"BadPath","line":1}|{"fault":25,"name":"BadLine","line":2}|{"dot":null,"killed":1}|
+POST /edits ["set","",1]||oops|
+  400 x-ndjson {"fault":4,"name":"BadPath","line":1}|{"fault":25,"name":"BadLine","line":3}|
+POST /edits oops|["del","apples/tags","blue"]
+  200 x-ndjson {"fault":25,"name":"BadLine","line":1}|{"dot":null,"killed":0}|
 POST /edits
   200 x-ndjson
 GET /conflicts
@@ -137,11 +141,16 @@ MAY_COME_WITH_TOKEN = """
 401 POST /edits | Authorization: Bearer
 401 POST /edits | Authorization: Bearer 0123456789abcdef-._
 401 POST /edits | Authorization: Basic TOKEN
+401 POST /edits | Authorization: Bearers TOKEN
+401 POST /edits | Authorization: bearer TOKENx
+401 POST /edits | Authorization: bearerTOKEN
 401 GET /live | Cookie: a=b | UPGRADE
 403 POST /edits | Authorization: Bearer TOKEN | Origin: http://example.org
 403 POST /login | Origin: http://example.org
 403 POST /grow | Authorization: Bearer TOKEN | Origin: http://example.org
 200 POST /edits | Authorization: Bearer TOKEN
+200 POST /edits | Authorization: bearer TOKEN
+200 POST /edits | Authorization: BEARER TOKEN
 400 POST /grow | Authorization: Bearer TOKEN
 200 GET /snapshot | Authorization: Bearer TOKEN
 200 POST /edits | Cookie: a=b; rds_PORT=TOKEN; c=d
@@ -206,7 +215,7 @@ def judge_heads(node):
     want("default-src 'none'" in policy, f"the page has the policy {policy}")
     head = node.answer("HEAD", "/")
     want(head.headers == page.headers, f"HEAD / has {head.headers}, and GET / {page.headers}")
-    due = {"rds_edits_total": 5, "rds_edits_refused_total": 2, "rds_live_entries": 2, "rds_peers": 0, "rds_peers_met": 0}
+    due = {"rds_edits_total": 6, "rds_edits_refused_total": 5, "rds_live_entries": 2, "rds_peers": 0, "rds_peers_met": 0}
     for name, number in due.items():
         want(node.count(name) == number, f"{name} is {node.count(name)}, where {number} is due")
 
@@ -240,7 +249,7 @@ def judge_pipes(node):
 
 
 def of_length(node, length):
-    """A request to edit that is so long as a whole. Its one line edits nothing."""
+    """A request to edit that is so long as a whole. Its one line is refused."""
     body = b" " * max(length * 7 // 8, length - 8_000)
     return node.text("POST", "/edits", body, "x: " + "y" * (length - len(node.text("POST", "/edits", body, "x: "))))
 
@@ -260,7 +269,7 @@ def judge_pieces(node):
             text = of_length(node, length)
             want(len(text) == length, f"a request of {length} bytes has {len(text)}")
             statuses = [link.answer(text).status, link.answer(text + first).status, link.answer().status]
-            want(statuses == [200] * 3, f"requests of {length} bytes are answered {statuses}")
+            want(statuses == [400, 400, 200], f"requests of {length} bytes are answered {statuses}")
     for cut, late in itertools.product([0, 1, len(second) - 1], [0, 0.05]):
         with node.link() as link:
             link.socket.sendall(first + second[:cut])
@@ -364,6 +373,34 @@ def judge_tags(node):
         answer = asked("GET", "/doc", None, f"If-None-Match: {tag}")
         with noted:
             want(answer.status == 200 and answer.headers["etag"] != tag, f"after an edit a tag is answered {answer}")
+    noted.end()
+
+
+def judge_matches(node):
+    """Edits and growths that are wanted only where the document is as it was seen: 412 where it has another tag."""
+    noted, edit = Noted(), b'["inc","matched",1]\n'
+    mark = lambda: node.status()["mark"]
+    with node.link() as link:
+        asked = lambda target, body, *lines: link.answer(node.text("POST", target, body, *lines))
+        tag, old = f'"{mark()}"', f'"{"0" * 32}"'
+        for shown in old, f"W/{tag}", tag[1:-1], f"{old}, W/{tag}", '"*"', "":
+            for target, body in ("/edits", edit), ("/edits", b"oops"), ("/grow", b"matched"):
+                answer = asked(target, body, f"If-Match: {shown}")
+                with noted:
+                    judge(f"{target} if {shown}", answer, '412 json {"status":412,"text":"the document has another tag"}')
+                    want(f'"{mark()}"' == tag, f"after {target} if {shown} the document is another")
+        for values in ["NOW"], ["*"], [f"{old} , NOW"], [old, "NOW"], ["NOW,"]:
+            now = f'"{mark()}"'
+            lines = ["If-Match: " + value.replace("NOW", now) for value in values]
+            grown, edited = asked("/grow", b"a", *lines), asked("/edits", edit, *lines)
+            with noted:
+                judge(f"/grow with {lines}", grown, '400 json {"fault":6,"name":"BadRoster","text":".."}')
+                judge(f"/edits with {lines}", edited, '200 x-ndjson {"dot":null,"killed":0}|')
+        for method, target in ("GET", "/doc"), ("POST", "/answer"):
+            due = link.answer(node.text(method, target, b"oops" if method == "POST" else None)).status
+            answer = link.answer(node.text(method, target, b"oops" if method == "POST" else None, f"If-Match: {old}"))
+            with noted:
+                want(answer.status == due, f"{method} {target} if {old} is answered {answer}")
     noted.end()
 
 
@@ -610,7 +647,7 @@ def try_requests(asked, folder):
     noted, node = Noted(), Node(asked.program, folder)
     with running(node):
         comers = lambda node: judge_comers(node, MAY_COME)
-        tags = judge_tags, judge_ask_tags
+        tags = judge_tags, judge_matches, judge_ask_tags
         texts = judge_pieces, judge_lines, judge_texts, judge_tagged
         for part in judge_table, judge_heads, judge_pipes, *texts, *tags, comers, stop_and_go_on:
             with noted:

@@ -133,7 +133,7 @@ def judge_lies(node):
             want(is_due, f"{what} is answered {answer}, where 400 and an end are due")
     with node.link() as link:
         statuses = [link.answer(node.text("POST", "/edits", line, "Content-Length: 4")).status, link.answer().status]
-        want(statuses == [200, 400], f"a body that goes on is answered {statuses}")
+        want(statuses == [400, 400], f"a body that goes on is answered {statuses}")
 
 
 def crawl(node):

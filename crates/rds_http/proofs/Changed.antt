@@ -6,6 +6,7 @@ use Rattle.http_server.specs.declared.response.Response.{Response}
 use Rattle.rds_names.specs.declared.fault.Fault.{Fault}
 use Rattle.rds_names.specs.declared.fault.Fault.TheVariants.{BadName, Cut, Memory, TooLong}
 use Rattle.rds_state.specs.Fits.{ReplicaValue}
+use Rattle.rds_store.specs.Files.{OpenValue}
 use Rattle.rds_store.specs.Meetings.{RefusesTaking}
 use Rattle.rds_http.specs.Access.{denial}
 use Rattle.rds_http.specs.Answers.{Answers, AnswersBy, Does, DoesPost, KeepsRest, asked_in, may_change, place_in}
@@ -30,6 +31,15 @@ pub still_noted : (noted came : Bool) (before after kept still : ReplicaValue)
 still_noted true came before after kept still first later same quiet = absurd (cc)
 still_noted false true before after kept still first later same quiet = absurd (cc)
 still_noted false false before after kept still first later same quiet = later refl ∙ first refl ∙ sym same
+
+-- what wasn't changed is noted as it was
+pub noted_as_before : (noted all : Bool) → all ≡ true → (noted || not all) ≡ noted
+noted_as_before true all is = refl
+noted_as_before false all is = ap not is
+
+-- a file that has the same is the same
+pub same_open : (old new : OpenValue) → new.path ≡ old.path → new.document ≡ old.document → new.kept ≡ old.kept → new ≡ old
+same_open old new path document kept = λ i. record { path = path i; document = document i; kept = kept i }
 
 pub not_all : (all : Bool) → not all ≡ false → all ≡ true
 not_all true quiet = refl

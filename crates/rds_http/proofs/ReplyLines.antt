@@ -1,5 +1,5 @@
 -- The lines that answer a body: how many, how long, and what they say was done.
-use Rattle.std.proofs.Common.{◌≡◌, ◌∙◌, ℕ, suc, ◌+◌, ◌<◌, ◌≤◌, ◌==◌, ◌&&◌, ◌^◌, Bool, true, false, cond, List, [], ◌∷◌, ◌++◌, length, Result, Ok, Err, IsTrue, refl, inl, inr, arith, lit≤, lit<, append_assoc, decimal}
+use Rattle.std.proofs.Common.{◌≡◌, ◌≢◌, ◌∙◌, ap, ℕ, suc, ◌+◌, ◌<◌, ◌≤◌, ◌==◌, ◌&&◌, ◌^◌, Bool, true, false, cond, List, [], ◌∷◌, ◌++◌, length, Result, Ok, Err, IsTrue, refl, inl, inr, arith, lit≤, lit<, append_assoc, decimal}
 use Rattle.std.specs.List.{count_by, list_all}
 use Rattle.std.proofs.lemmas.Fmt.{length-decimal-le_wide}
 use Rattle.std.proofs.lemmas.List.Sums.{sum_by-cons}
@@ -17,7 +17,7 @@ use Rattle.rds_output.specs.Reply.{is_refusal}
 use Rattle.rds_output.specs.declared.reply.Reply.{Reply}
 use Rattle.rds_state.specs.Fits.{ReplicaValue}
 use Rattle.rds_state.specs.declared.command.Command.{Command}
-use Rattle.rds_http.specs.Lines.{is_short}
+use Rattle.rds_http.specs.Lines.{is_short, line_status, lines_status}
 
 -- ---- how many
 
@@ -102,6 +102,23 @@ answers_behind count (bytes ∷ lines) before after answers next =
 pub answers_are : (lines : List (List ℕ)) (before after : ReplicaValue) (answers : List Reply)
     → EditsLines lines before after answers → AreAnswers before after answers (length lines)
 answers_are lines before after answers edits = answers_behind 0 lines before after answers edits
+
+-- ---- by which status
+
+if_all : (all : Bool) (status : ℕ) → cond all status 200 ≢ 200 → all ≡ true
+if_all true status other = refl
+if_all false status other = absurd (other refl)
+
+-- another status than 200 says that each line was refused
+pub all_refused : (replies : List Reply) → lines_status replies ≢ 200 → list_all is_refusal replies ≡ true
+all_refused [] other = absurd (other refl)
+all_refused (reply ∷ replies) other = if_all (list_all is_refusal (reply ∷ replies)) (line_status reply) other
+
+-- the same of the status that was told
+pub all_refused_by : (replies passed : List Reply) (status : ℕ) → passed ≡ replies → status ≡ lines_status passed
+    → status ≢ 200 → list_all is_refusal replies ≡ true
+all_refused_by replies passed status same is other =
+    all_refused replies (λ ok. other (is ∙ ap lines_status same ∙ ok))
 
 -- ---- how long
 

@@ -1,6 +1,8 @@
 -- Texts that are compared part by part.
 use Rattle.std.proofs.Common.{◌≡◌, ◌≢◌, ℕ, zero, suc, ◌+◌, ◌-◌, ◌<◌, Bool, true, false, ◌&&◌, nat_eq, bytes_eq, codes, List, [], ◌∷◌, ◌++◌, length, take, drop, slice_index, refl, sym, ap, ◌∙◌, arith, append_assoc, drop_at, length-append}
-use Rattle.std.proofs.lemmas.List.{take_all, take-append-drop}
+use Rattle.std.specs.Char.{to_ascii_lowercase}
+use Rattle.std.specs.Str.{str_eq_ignore_ascii_case, str_to_ascii_lowercase}
+use Rattle.std.proofs.lemmas.List.{length-map, take_all, take-append-drop}
 use Rattle.std.proofs.lemmas.Slice.Eq.{bytes_eq-Decides}
 use Rattle.std.proofs.Math.Seq.{take-append_seam}
 
@@ -39,6 +41,14 @@ bytes_eq-lengths [] (y ∷ b) unlike = refl
 bytes_eq-lengths (x ∷ a) [] unlike = refl
 bytes_eq-lengths (x ∷ a) (y ∷ b) unlike =
     ap (λ r. nat_eq x y && r) (bytes_eq-lengths a b (λ e. unlike (ap suc e))) ∙ and-false (nat_eq x y)
+
+-- a text that is shorter than a name doesn't begin with it, in whatever case
+pub shorter-than_name : (text name : List ℕ) → length text < length name
+    → str_eq_ignore_ascii_case (take (length name) text) name ≡ false
+shorter-than_name text name short =
+    let whole : take (length name) text ≡ text = take_all (length name) text (omega (arith, short)) in
+    bytes_eq-lengths (str_to_ascii_lowercase (take (length name) text)) (str_to_ascii_lowercase name)
+    (λ e. omega (arith, short, e, ap length whole, length-map (take (length name) text) to_ascii_lowercase, length-map name to_ascii_lowercase))
 
 -- what stands behind a beginning and two bytes more
 pub drop-behind : (start : List ℕ) (a b : ℕ) (end : List ℕ) → drop (length start + 2) (start ++ a ∷ b ∷ end) ≡ end

@@ -1,17 +1,21 @@
 -- What a site answers a request, and what becomes of it by that.
-use Rattle.std.specs.Prelude.{◌≡◌, ◌≢◌, ℕ, Bool, true, false, List, Option, None, Some}
+use Rattle.std.specs.Prelude.{◌≡◌, ◌≢◌, ℕ, Bool, true, false, not, ◌&&◌, List, Option, None, Some}
 use Rattle.http.specs.Request.{body_of, head_of}
 use Rattle.http.specs.declared.request.Request.{Request}
 use Rattle.http_server.specs.declared.response.Response.{Response}
+use Rattle.http_header.specs.FieldValue.{FieldValue}
+use Rattle.http_header.specs.HeaderMap.{Entries}
 use Rattle.http_uri.specs.Uri.{uri_path}
+use Rattle.rds_state.specs.Value.{StateValue}
 use Rattle.rds_http.specs.Access.{denial}
 use Rattle.rds_http.specs.Changes.{AnswersEdits, AnswersGrowth, AnswersPull, AnswersPush, AnswersQuestion, AnswersTake}
 use Rattle.rds_http.specs.Handshakes.{AnswersHandshake, headers_of}
 use Rattle.rds_http.specs.Login.{AnswersLogin}
 use Rattle.rds_http.specs.Looks.{AnswersLook}
-use Rattle.rds_http.specs.Refusals.{IsDenied, IsNotAllowed, IsUnknown}
+use Rattle.rds_http.specs.Refusals.{IsDenied, IsNotAllowed, IsUnknown, IsUnmet}
 use Rattle.rds_http.specs.Routes.{asked_of, place_of}
 use Rattle.rds_http.specs.Site.{SiteValue}
+use Rattle.rds_http.specs.Tags.{is_met, state_tag}
 use Rattle.rds_http.specs.declared.access.Denied.{Denied}
 use Rattle.rds_http.specs.declared.routes.Asked.{Asked}
 use Rattle.rds_http.specs.declared.routes.Asked.TheVariants as Ask
@@ -57,11 +61,31 @@ DoesPost Answer body old response new = AnswersQuestion body old.document respon
 DoesPost Pull body old response new = AnswersPull body old.document response
 DoesPost Login body old response new = AnswersLogin old.access.port old.access.token body response
 
+-- what is done only where the document has a tag that the request names
+abbrev pub is_conditional : Post → Bool
+is_conditional Edits = true
+is_conditional Grow = true
+is_conditional Take = false
+is_conditional Push = false
+is_conditional Answer = false
+is_conditional Pull = false
+is_conditional Login = false
+
+-- the request names tags, and the document has none of them
+abbrev pub is_unmet : Post → Entries FieldValue → StateValue → Bool
+is_unmet post headers state = is_conditional post && not (is_met headers (state_tag state))
+
+-- then that is told, and nothing is done
+abbrev pub DoesPostUnless : Bool → Post → List ℕ → SiteValue → Response → SiteValue → Type 0
+DoesPostUnless true post body old response new = (new ≡ old) × IsUnmet response
+DoesPostUnless false post body old response new = DoesPost post body old response new
+
 -- what a request that is let in is answered, by what it asks for and the place that it names
 abbrev pub Does : Asked → List ℕ → SiteValue → Request (List ℕ) → Response → SiteValue → Type 0
 Does (Ask.Look look) place old request response new =
     AnswersLook look old.document place (headers_of request) response
-Does (Ask.Post post) place old request response new = DoesPost post (body_of request) old response new
+Does (Ask.Post post) place old request response new =
+    DoesPostUnless (is_unmet post (headers_of request) old.document.state) post (body_of request) old response new
 Does Ask.Live place old request response new = AnswersHandshake (headers_of request) response
 Does (Ask.NotAllowed resource) place old request response new = IsNotAllowed resource response
 Does Ask.Unknown place old request response new = IsUnknown response

@@ -19,7 +19,7 @@ use Rattle.rds_state.specs.Fits.{ReplicaValue}
 use Rattle.rds_store.specs.Documents.{IsGrownBy, RefusesGrowth}
 use Rattle.rds_store.specs.Meetings.{MayAnswer, MayAsk, RefusesTaking, RespondsTo}
 use Rattle.rds_http.specs.Asked.{HasTag}
-use Rattle.rds_http.specs.Lines.{line_count}
+use Rattle.rds_http.specs.Lines.{line_count, lines_status}
 use Rattle.rds_http.specs.Looks.{lines_of_json}
 use Rattle.rds_http.specs.Refusals.{IsUnknownTag, TellsFault, json}
 use Rattle.rds_http.specs.Replies.{Tells}
@@ -29,11 +29,12 @@ use Rattle.rds_http.specs.declared.tag.Tag.{Tag}
 
 -- ---- edits
 
--- the lines of a body were done or refused, one after the other, and these are the lines that they are answered
+-- the lines of a body were done or refused, one after the other, and these are the lines that they are answered. The
+-- status tells of a refusal where none was done
 pub record EditsBody (body : List ℕ) (before after : ReplicaValue) (response : Response) : Type 0 where
   pub replies : List Reply
   pub edits : EditsLines (lines_in body) before after replies
-  pub told : Tells 200 lines_of_json (replies_text replies) response
+  pub told : Tells (lines_status replies) lines_of_json (replies_text replies) response
 
 -- nothing was done
 pub record Refuses (fault : Fault) (before after : ReplicaValue) (response : Response) : Type 0 where

@@ -67,6 +67,10 @@ IsUnknown response = TellsWords 404 (codes "no such resource") response
 abbrev pub IsUnknownTag : Response → Type 0
 IsUnknownTag response = TellsWords 412 (codes "the tag is of no question that is known") response
 
+-- the document has none of the tags that a request names
+abbrev pub IsUnmet : Response → Type 0
+IsUnmet response = TellsWords 412 (codes "the document has another tag") response
+
 -- the methods of a resource
 abbrev pub methods_of : Resource → List ℕ
 methods_of (Of.Look look) = codes "GET, HEAD"

@@ -1,11 +1,11 @@
 -- Entity tags (RFC 9110), and what conditions name them.
-use Rattle.std.specs.Prelude.{◌≡◌, ℕ, ◌-◌, ◌^◌, ◌<◌, Bool, ◌||◌, ◌==◌, bytes_eq, codes, List, ◌++◌, length, take, drop}
+use Rattle.std.specs.Prelude.{◌≡◌, ℕ, ◌-◌, ◌^◌, ◌<◌, Bool, ◌||◌, ◌==◌, bytes_eq, codes, List, ◌++◌, length, take, drop, is_none}
 use Rattle.std.specs.Char.{is_ascii_whitespace}
 use Rattle.std.specs.Int.{to_be_bytes, w64}
 use Rattle.std.specs.List.{list_any, prefix_len, slice_split, suffix_len}
 use Rattle.hex.specs.Hex.{IsBytes, encode_lower}
 use Rattle.http_header.specs.FieldValue.{FieldValue}
-use Rattle.http_header.specs.HeaderMap.{Entries}
+use Rattle.http_header.specs.HeaderMap.{Entries, get}
 use Rattle.rds_briefs.specs.Briefs.{brief_text}
 use Rattle.rds_codec.specs.FormatWriting.{IsTabledUnwritten}
 use Rattle.rds_names.specs.declared.fault.Fault.{Fault}
@@ -89,3 +89,17 @@ is_named_by tag value = bytes_eq value (codes "*") || has_tag tag value
 -- the condition of a request that wants no more of what has this tag
 abbrev pub is_known : Entries FieldValue → List ℕ → Bool
 is_known headers tag = list_any (is_named_by tag) (values_in headers (codes "if-none-match"))
+
+-- one of a list of tags, between commas, is this one, and strong
+abbrev pub has_strong_tag : List ℕ → List ℕ → Bool
+has_strong_tag tag value =
+    list_any (λ member. bytes_eq (without_blanks member) tag) (slice_split (λ b. b == 44) value)
+
+-- a condition names the tag, and strong, or any
+abbrev pub is_matched_by : List ℕ → List ℕ → Bool
+is_matched_by tag value = bytes_eq value (codes "*") || has_strong_tag tag value
+
+-- the condition of a request that changes only what has this tag: there is none, or it names the tag
+abbrev pub is_met : Entries FieldValue → List ℕ → Bool
+is_met headers tag =
+    is_none (get headers (codes "if-match")) || list_any (is_matched_by tag) (values_in headers (codes "if-match"))

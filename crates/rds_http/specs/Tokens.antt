@@ -1,8 +1,9 @@
 -- Tokens, and what header fields show them.
 use Rattle.std.specs.Prelude.{ℕ, ◌-◌, Bool, false, ◌&&◌, ◌||◌, ◌==◌, nat_le, bytes_eq, codes, decimal, List, [], ◌∷◌, ◌++◌}
-use Rattle.std.specs.Prelude.{length, map, take, slice_get, Option, None, Some, Result, Ok, Err, if◌then◌else◌}
+use Rattle.std.specs.Prelude.{drop, length, map, take, slice_get, Option, None, Some, Result, Ok, Err, if◌then◌else◌}
 use Rattle.std.specs.Char.{is_ascii_alphanumeric}
 use Rattle.std.specs.List.{list_all, list_any, slice_split}
+use Rattle.std.specs.Str.{str_eq_ignore_ascii_case}
 use Rattle.http_header.specs.FieldValue.{FieldValue}
 use Rattle.http_header.specs.HeaderMap.{Entries, get_all}
 use Rattle.rds_names.specs.declared.fault.Fault.{Fault}
@@ -46,8 +47,13 @@ abbrev pub has_cookie : List ℕ → List ℕ → List ℕ → Bool
 has_cookie start token value =
     list_any (λ cookie. bytes_eq (without_space cookie) (start ++ token)) (slice_split (λ b. b == 59) value)
 
+-- the value of a field is the scheme, in whatever case, a space and the token
+abbrev pub is_bearing : List ℕ → List ℕ → Bool
+is_bearing token value =
+    str_eq_ignore_ascii_case (take 7 value) (codes "Bearer ") && bytes_eq (drop 7 value) token
+
 -- header fields show the token, by a cookie that begins so or without one
 abbrev pub is_shown : List ℕ → List ℕ → Entries FieldValue → Bool
 is_shown start token headers =
-    list_any (λ value. bytes_eq value (codes "Bearer " ++ token)) (values_in headers (codes "authorization"))
+    list_any (is_bearing token) (values_in headers (codes "authorization"))
     || list_any (has_cookie start token) (values_in headers (codes "cookie"))

@@ -158,11 +158,11 @@ fn is_host_at(alloc: Global, address: SocketAddr, host: &[u8]) -> Result<bool, A
     )
 }
 
-/// Whether two hosts are the same, whatever their case (RFC 9110, 2022).
-fn are_same_names(host: &[u8], other: &[u8]) -> bool
-    ensures { result ≡ str_eq_ignore_ascii_case host.now other.now }
+/// Whether two names, of hosts or schemes, are the same, whatever their case (RFC 9110, 2022).
+pub fn are_same_names(name: &[u8], other: &[u8]) -> bool
+    ensures { result ≡ str_eq_ignore_ascii_case name.now other.now }
 {
-    host.eq_ignore_ascii_case(other)
+    name.eq_ignore_ascii_case(other)
 }
 
 /// Whether it is asked for something that pages of other sites may not ask for.

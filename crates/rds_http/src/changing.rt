@@ -1,11 +1,12 @@
 //! Requests that change the document.
-ghost use Rattle.std.specs.Prelude.{◌≡◌, ◌≢◌, ◌*◌, ◌≤◌, IfErr, IfOk, OnErr, OnOk, false, length, true};
+ghost use Rattle.std.specs.Prelude.{◌≡◌, ◌≢◌, ◌*◌, ◌≤◌, [], IfErr, IfOk, OnErr, OnOk, false, length, true};
 ghost use Rattle.std.specs.List.{list_all};
-ghost use Rattle.http_server.specs.Response.{IsBlank};
-ghost use Rattle.rds_lines.specs.Editing.{EditsLines};
+ghost use Rattle.http_server.specs.Response.{IsBlank, IsResponse, fields_of};
+ghost use Rattle.rds_lines.specs.Editing.{EditsLines, replies_text};
 ghost use Rattle.rds_lines.specs.Lines.{lines_in};
 ghost use Rattle.rds_names.specs.declared.fault.Fault.TheVariants.{Cut, Memory};
 ghost use Rattle.rds_offline.specs.Letters.{TakesResponse};
+ghost use Rattle.rds_output.specs.Reply.{is_refusal};
 ghost use Rattle.rds_store.specs.Documents.{IsGrownBy};
 ghost use Rattle.rds_store.specs.Meetings.{RefusesTaking};
 ghost use Rattle.rds_http.specs.Changes.{
@@ -17,11 +18,11 @@ ghost use Rattle.rds_http.specs.Changes.{
   HoldsBoth,
   RefusesNewName,
 };
-ghost use Rattle.rds_http.specs.Lines.{is_short};
+ghost use Rattle.rds_http.specs.Lines.{is_short, lines_status};
 ghost use Rattle.rds_http.specs.Site.{ChangesAreNoted, KeepsFile};
 ghost use Rattle.rds_http.specs.declared.lines.TheConstants.{LONGEST};
 
-use crate::lines::{LONGEST, MOST_LINES, are_refusals, line_count, put_lines};
+use crate::lines::{LONGEST, MOST_LINES, are_refusals, line_count, lines_status, put_lines};
 use crate::metrics::Metrics;
 use crate::refusals::{refuse, refuse_tag};
 use crate::replies::{JSON, LINES, add_field};
@@ -52,7 +53,8 @@ impl<H: Disk> Drop for Held<'_, H> {
 }
 
 /// Edits the document as the lines of a body say, and answers each but the empty ones. What that takes is there before
-/// the first is done, so that what is done is answered. A body of too many lines is refused whole (`TooLong`).
+/// the first is done, so that what is done is answered. Where each line is refused, the status is that of the first. A
+/// body of too many lines is refused whole (`TooLong`).
 pub fn edit<H: Disk>(
     alloc: Global,
     reader: &mut LineReader,
@@ -80,7 +82,7 @@ pub fn edit<H: Disk>(
     match edit_in(reader, held, body) {
         Ok(replies) => {
             metrics.note_edits(&replies);
-            put_lines(&mut response.body, &replies);
+            tell_replies(response, &replies);
             Ok(())
         }
         Err(fault) => {
@@ -101,6 +103,7 @@ fn edit_in<H: Disk>(
         (λ replies. EditsLines (lines_in lines.now) held.old.file.document held.new.file.document replies.items) }
     ensures short { IfOk result (λ replies. list_all is_short replies.items ≡ true) }
     ensures few { IfOk result (λ replies. length replies.items ≤ length (lines_in lines.now)) }
+    ensures refused { IfOk result (λ replies. list_all is_refusal replies.items ≡ true → held.new ≡ held.old) }
     ensures memory { IfErr result (λ fault. fault ≡ Memory) }
     ensures noted { ChangesAreNoted held.new.has_changed held.new.file.document held.new.file.kept }
     ensures file { KeepsFile held.old.file held.new.file }
@@ -109,6 +112,17 @@ fn edit_in<H: Disk>(
     let replies = held.file.edit_lines(reader, lines)?;
     held.has_changed |= !are_refusals(&replies);
     Ok(replies)
+}
+
+/// Fills a response with the lines of replies, for which there is room, and their status.
+fn tell_replies(response: &mut Response, replies: &[Reply])
+    requires empty { response.old.body.items ≡ [] }
+    requires short { list_all is_short replies.now ≡ true }
+    requires room { LONGEST * length replies.now ≤ response.old.body.spare }
+    ensures { IsResponse (lines_status replies.now) (fields_of response.old) (replies_text replies.now) response.new }
+{
+    response.status = lines_status(replies);
+    put_lines(&mut response.body, replies);
 }
 
 /// Puts the name that a body is last in the roster, and answers that it is done.

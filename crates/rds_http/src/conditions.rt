@@ -1,10 +1,22 @@
-//! Requests for what changed.
-ghost use Rattle.std.specs.Prelude.{◌≡◌, IfOk, string_bytes};
-ghost use Rattle.rds_http.specs.Tags.{has_tag, is_known, is_named_by, is_same_tag, state_tag, without_blanks};
+//! Requests for what changed, and for changes of what did not.
+ghost use Rattle.std.specs.Prelude.{◌≡◌, IfOk, codes, string_bytes};
+ghost use Rattle.std.specs.List.{list_any};
+ghost use Rattle.rds_http.specs.Tags.{
+  has_strong_tag,
+  has_tag,
+  is_known,
+  is_matched_by,
+  is_met,
+  is_named_by,
+  is_same_tag,
+  state_tag,
+  without_blanks,
+};
+ghost use Rattle.rds_http.specs.Tokens.{values_in};
 
 use crate::access::are_joined;
 use http::HeaderMap;
-use http::header::{HeaderValue, IF_NONE_MATCH};
+use http::header::{HeaderValue, IF_MATCH, IF_NONE_MATCH};
 use rds_store::Document;
 use std::alloc::{AllocError, Global};
 
@@ -42,6 +54,34 @@ pub fn seen_of(
     Ok(Seen { tag, is_known })
 }
 
+/// Whether a request with these header fields may change a document as it is (RFC 9110, 2022): it has no `If-Match` field,
+/// or one that names the document's tag, and not as a weak one, or is `*`.
+pub fn is_met(
+    alloc: Global,
+    document: &Document,
+    headers: &HeaderMap<HeaderValue>,
+) -> Result<bool, AllocError>
+    ensures { IfOk result (λ met. met ≡ is_met headers.now (state_tag document.now.state)) }
+{
+    if headers.get(IF_MATCH).is_none() {
+        return Ok(true);
+    }
+    let tag = document_tag(alloc, document)?;
+    Ok(is_matched(headers, tag.as_bytes()))
+}
+
+/// Whether an `If-Match` field names the tag, or is `*`.
+fn is_matched(headers: &HeaderMap<HeaderValue>, tag: &[u8]) -> bool
+    ensures { result ≡ list_any (is_matched_by tag.now) (values_in headers.now (codes "if-match")) }
+{
+    for value in headers.get_all(IF_MATCH) {
+        if is_matched_by(tag, value.as_bytes()) {
+            return true;
+        }
+    }
+    false
+}
+
 /// The tag of what is shown of a document: its mark, quoted.
 fn document_tag(alloc: Global, document: &Document) -> Result<String, AllocError>
     ensures { IfOk result (λ tag. string_bytes tag ≡ state_tag document.now.state) }
@@ -64,6 +104,22 @@ fn has_tag(tag: &[u8], value: &[u8]) -> bool
     value
         .split(|b| *b == b',')
         .any(|member| is_same_tag(tag, without_blanks(member)))
+}
+
+/// Whether a field is `*`, or one of its members the tag, and strong.
+fn is_matched_by(tag: &[u8], value: &[u8]) -> bool
+    ensures { result ≡ is_matched_by tag.now value.now }
+{
+    value == b"*".as_slice() || has_strong_tag(tag, value)
+}
+
+/// Whether one of the tags of a field is this one, and strong.
+fn has_strong_tag(tag: &[u8], value: &[u8]) -> bool
+    ensures { result ≡ has_strong_tag tag.now value.now }
+{
+    value
+        .split(|b| *b == b',')
+        .any(|member| without_blanks(member) == tag)
 }
 
 /// Whether tags have the same opaque part, where the first is strong.

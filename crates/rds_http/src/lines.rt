@@ -7,9 +7,11 @@ ghost use Rattle.rds_lines.specs.Lines.{lines_in};
 ghost use Rattle.rds_names.specs.Fault.{name_of};
 ghost use Rattle.rds_output.specs.Reply.{is_refusal, reply_line};
 ghost use Rattle.rds_output.specs.declared.reply.Reply.TheVariants.{Edited, RefusedLine};
-ghost use Rattle.rds_http.specs.Lines.{is_short, line_count};
+ghost use Rattle.rds_http.specs.Lines.{is_short, line_count, line_status, lines_status};
 
+use crate::refusals::status_of;
 use bytes::BufMut;
+use http::StatusCode;
 use http_server::Rope;
 use rds_names::{Fault, Name};
 use rds_output::{Digits, Reply};
@@ -36,6 +38,26 @@ pub fn are_refusals(replies: &[Reply]) -> bool
     ensures { result ≡ list_all is_refusal replies.now }
 {
     replies.iter().all(|reply| reply.is_refusal())
+}
+
+/// The status of replies: that of the first, where each line was refused, and there is one.
+pub fn lines_status(replies: &[Reply]) -> StatusCode
+    ensures { result ≡ lines_status replies.now }
+{
+    match replies.split_first() {
+        Some((first, _)) if are_refusals(replies) => line_status(first),
+        _ => StatusCode::OK,
+    }
+}
+
+/// The status of one line: that of the fault by which it was refused.
+fn line_status(reply: &Reply) -> StatusCode
+    ensures { result ≡ line_status reply.now }
+{
+    match reply {
+        Reply::RefusedLine { fault, .. } => status_of(*fault),
+        _ => StatusCode::OK,
+    }
 }
 
 /// Writes the lines of replies. There is room for them.

@@ -2,7 +2,17 @@
 ghost use Rattle.std.specs.Prelude.{◌≡◌, IfOk, OnOk};
 ghost use Rattle.http_server.specs.Response.{IsBlank};
 ghost use Rattle.rds_names.specs.Fault.{text_of_fault, words_of};
-ghost use Rattle.rds_http.specs.Refusals.{IsDenied, IsNotAllowed, IsUnknown, IsUnknownTag, TellsFault, TellsWords, fault_json, status_of};
+ghost use Rattle.rds_http.specs.Refusals.{
+  IsDenied,
+  IsNotAllowed,
+  IsUnknown,
+  IsUnknownTag,
+  IsUnmet,
+  TellsFault,
+  TellsWords,
+  fault_json,
+  status_of,
+};
 
 use crate::access::Denied;
 use crate::replies::{JSON, add_field, fill};
@@ -50,12 +60,23 @@ pub fn refuse_tag(alloc: Global, response: &mut Response) -> Result<(), AllocErr
     requires { IsBlank response.old }
     ensures { OnOk result (IsUnknownTag response.new) }
 {
-    tell(
-        alloc,
-        StatusCode::PRECONDITION_FAILED,
-        "the tag is of no question that is known",
-        response,
-    )
+    refuse_condition(alloc, "the tag is of no question that is known", response)
+}
+
+/// Answers that the document has none of the tags that a request names.
+pub fn refuse_unmet(alloc: Global, response: &mut Response) -> Result<(), AllocError>
+    requires { IsBlank response.old }
+    ensures { OnOk result (IsUnmet response.new) }
+{
+    refuse_condition(alloc, "the document has another tag", response)
+}
+
+/// Answers by words that a request was made of something else than what is here.
+fn refuse_condition(alloc: Global, words: &str, response: &mut Response) -> Result<(), AllocError>
+    requires { IsBlank response.old }
+    ensures { OnOk result (TellsWords 412 words.now response.new) }
+{
+    tell(alloc, StatusCode::PRECONDITION_FAILED, words, response)
 }
 
 /// Answers that a resource doesn't have the method, and which it has.
@@ -126,7 +147,7 @@ fn words_in(printed: &[u8], fault: Fault) -> &[u8]
 }
 
 /// The status by which a fault of the document is answered.
-fn status_of(fault: Fault) -> StatusCode
+pub fn status_of(fault: Fault) -> StatusCode
     ensures { result ≡ status_of fault }
 {
     match fault {

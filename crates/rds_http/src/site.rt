@@ -1,22 +1,35 @@
 //! A site: a document in its file, who may come, and what is counted.
-ghost use Rattle.std.specs.Prelude.{◌≡◌, ◌≢◌, false, IfErr, OnErr, OnOk};
+ghost use Rattle.std.specs.Prelude.{◌≡◌, ◌≢◌, false, IfErr, IfOk, OnErr, OnOk};
+ghost use Rattle.http.specs.Request.{body_of};
 ghost use Rattle.http_server.specs.Response.{IsBlank};
 ghost use Rattle.rds_files.specs.Files.{IsUnkept};
-ghost use Rattle.rds_http.specs.Answers.{Does, DoesPost, KeepsRest, is_changing, may_change};
+ghost use Rattle.rds_http.specs.Answers.{
+  Does,
+  DoesPost,
+  DoesPostUnless,
+  KeepsRest,
+  is_changing,
+  is_conditional,
+  is_unmet,
+  may_change,
+};
+ghost use Rattle.rds_http.specs.Handshakes.{headers_of};
 ghost use Rattle.rds_http.specs.Site.{after_keep};
 
 use crate::access::Access;
 use crate::changing::{Held, edit, grow, push, take};
+use crate::conditions::is_met;
 use crate::live::upgrade;
 use crate::login::log_in;
 use crate::metrics::Metrics;
 use crate::pulling::pull;
 use crate::reading::{answer, look};
-use crate::refusals::{deny, refuse_method, refuse_unknown};
+use crate::refusals::{deny, refuse_method, refuse_unknown, refuse_unmet};
 use crate::routes::{Asked, Post, Route, route_of};
 use crate::tracked::Tracked;
 use bytes::Bytes;
-use http::Request;
+use http::header::HeaderValue;
+use http::{HeaderMap, Request};
 use http_server::{Response, Service};
 use rds_files::{Disk, LockFile};
 use rds_json::LineReader;
@@ -163,7 +176,6 @@ impl<H: Disk> Site<'_, H> {
         ensures err { OnErr result (self.new ≡ self.old) }
     {
         let alloc = self.alloc;
-        let body = request.body().as_slice();
         match route.asked {
             Asked::Look(asked) => {
                 let file = &mut self.held.file;
@@ -177,15 +189,48 @@ impl<H: Disk> Site<'_, H> {
                     response,
                 )
             }
-            Asked::Post(post) => self.respond_to_post(post, body, response),
+            Asked::Post(post) => self.respond_to_post(post, request, response),
             Asked::Live => upgrade(alloc, request, response),
             Asked::NotAllowed(resource) => refuse_method(alloc, resource, response),
             Asked::Unknown => refuse_unknown(alloc, response),
         }
     }
 
-    /// Answers a body that is posted.
+    /// Answers what is posted, unless the request names tags of which the document has none (412).
     fn respond_to_post(
+        &mut self,
+        post: Post,
+        request: &Request<Bytes>,
+        response: &mut Response,
+    ) -> Result<(), AllocError>
+        requires { IsBlank response.old }
+        ensures done { OnOk result
+            (DoesPostUnless (is_unmet post (headers_of request.now) self.old.document.state) post (body_of request.now)
+            self.old response.new self.new) }
+        ensures rest { KeepsRest self.old self.new }
+        ensures refused { OnOk result (response.new.status ≢ 200 → self.new ≡ self.old) }
+        ensures looked { is_changing post ≡ false → self.new ≡ self.old }
+        ensures err { OnErr result (self.new ≡ self.old) }
+    {
+        if self.is_unmet(post, request.headers())? {
+            return refuse_unmet(self.alloc, response);
+        }
+        self.do_post(post, request.body().as_slice(), response)
+    }
+
+    /// Whether a request with these header fields names tags, and the document has none of them.
+    fn is_unmet(&self, post: Post, headers: &HeaderMap<HeaderValue>) -> Result<bool, AllocError>
+        ensures { IfOk result (λ unmet. unmet ≡ is_unmet post headers.now self.now.document.state) }
+    {
+        if !is_conditional(post) {
+            return Ok(false);
+        }
+        let is_met = is_met(self.alloc, self.held.file.document(), headers)?;
+        Ok(!is_met)
+    }
+
+    /// Does what is posted, and answers that.
+    fn do_post(
         &mut self,
         post: Post,
         body: &[u8],
@@ -216,6 +261,13 @@ impl<H: Disk> Site<'_, H> {
             Post::Login => log_in(alloc, &self.access, body, response),
         }
     }
+}
+
+/// Whether this is done only where the document has a tag that the request names.
+fn is_conditional(post: Post) -> bool
+    ensures { result ≡ is_conditional post }
+{
+    matches!(post, Post::Edits | Post::Grow)
 }
 
 impl<H: Disk> Service for Site<'_, H> {

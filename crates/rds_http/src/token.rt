@@ -5,6 +5,7 @@ ghost use Rattle.rds_names.specs.declared.fault.Fault.TheVariants.{Memory};
 ghost use Rattle.rds_http.specs.Tokens.{
   cookie_start,
   has_cookie,
+  is_bearing,
   is_shown,
   is_token,
   is_token_byte,
@@ -14,6 +15,7 @@ ghost use Rattle.rds_http.specs.Tokens.{
   without_space,
 };
 
+use crate::access::are_same_names;
 use http::HeaderMap;
 use http::header::{AUTHORIZATION, COOKIE, HeaderValue};
 use rds_names::Fault;
@@ -24,6 +26,9 @@ use std::marker::Model;
 const LEAST: usize = 16;
 
 const MOST: usize = 128;
+
+/// The scheme by which a field shows a token, and the space behind it.
+const SCHEME: &[u8] = b"Bearer ";
 
 /// A secret that requests show: 16 to 128 bytes of `A-Z a-z 0-9 - . _ ~`.
 #[derive(Drop)]
@@ -67,8 +72,8 @@ impl Token {
         are_same(shown, &self.bytes)
     }
 
-    /// Whether header fields show it: `Authorization: Bearer TOKEN` (RFC 6750, 2012), or a cookie (RFC 6265, 2011) that
-    /// begins so and goes on with the token.
+    /// Whether header fields show it: `Authorization: Bearer TOKEN` (RFC 6750, 2012), with the scheme in whatever case, or
+    /// a cookie (RFC 6265, 2011) that begins so and goes on with the token.
     pub fn is_shown(&self, start: &[u8], headers: &HeaderMap<HeaderValue>) -> bool
         ensures { result ≡ is_shown start.now self.now headers.now }
     {
@@ -77,15 +82,24 @@ impl Token {
 
     /// Whether an `Authorization` field shows it.
     fn is_borne(&self, headers: &HeaderMap<HeaderValue>) -> bool
-        ensures { result ≡ list_any (λ value. bytes_eq value (codes "Bearer " ++ self.now))
-            (values_in headers.now (codes "authorization")) }
+        ensures { result ≡ list_any (is_bearing self.now) (values_in headers.now (codes "authorization")) }
     {
         for value in headers.get_all(AUTHORIZATION) {
-            if self.is_behind(b"Bearer ", value.as_bytes()) {
+            if self.is_borne_by(value.as_bytes()) {
                 return true;
             }
         }
         false
+    }
+
+    /// Whether the value of a field is the scheme, in whatever case (RFC 9110, 2022), a space and the token.
+    fn is_borne_by(&self, value: &[u8]) -> bool
+        ensures { result ≡ is_bearing self.now value.now }
+    {
+        match value.split_at_checked(SCHEME.len()) {
+            Some((scheme, shown)) => are_same_names(scheme, SCHEME) && self.is(shown),
+            None => false,
+        }
     }
 
     /// Whether a `Cookie` field shows it.

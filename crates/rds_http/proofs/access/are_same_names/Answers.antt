@@ -5,6 +5,6 @@ use Rattle.rds_http.proofs.access.are_same_names.Goals as goal
 
 pub returns : goal.returns
 returns c =
-    let host = str_to_ascii_lowercase c.args.host.now in
+    let name = str_to_ascii_lowercase c.args.name.now in
     let other = str_to_ascii_lowercase c.args.other.now in
-    same_from_decides c.eq_ignore_ascii_case.result (bytes_eq host other) c.eq_ignore_ascii_case.ensures.test (bytes_eq-Decides host other)
+    same_from_decides c.eq_ignore_ascii_case.result (bytes_eq name other) c.eq_ignore_ascii_case.ensures.test (bytes_eq-Decides name other)

@@ -3,6 +3,7 @@ use Rattle.rds_names.specs.declared.fault.Fault.TheVariants.{Memory}
 use Rattle.rds_http.specs.Lines.{line_count}
 use Rattle.rds_http.specs.declared.lines.TheConstants.{MOST_LINES}
 use Rattle.rds_http.proofs.Changed.{edits_refused, edits_too_many, on_ok}
+use Rattle.rds_http.proofs.ReplyLines.{all_refused_by}
 use Rattle.rds_http.proofs.changing.edit.Goals as goal
 
 pub returns-then-lines-gt-MOST_LINES-clause-answered : goal.returns-then-lines-gt-MOST_LINES-clause-answered
@@ -24,6 +25,12 @@ returns-in-Ok-clause-answered g c =
     let few : line_count c.args.body.now ≤ MOST_LINES =
     subst (λ n. n ≤ MOST_LINES) c.line_count-lines.ensures.count c.if-lines-gt-MOST_LINES.false in
     inl (few, inl (record { replies = c.in-Ok.replies.items; edits = c.in-Ok.ensures.edited; told = search rules }))
+
+pub returns-in-Ok-clause-refused : goal.returns-in-Ok-clause-refused
+returns-in-Ok-clause-refused g c = λ other.
+    c.in-Ok.ensures.refused
+    (all_refused_by c.in-Ok.replies.items c.deref-in-Ok.result.now c.tell_replies.new.response.status c.deref-in-Ok.ensures.value
+    c.tell_replies.ensures.status other)
 
 pub returns-in-Err-clause-answered : goal.returns-in-Err-clause-answered
 returns-in-Err-clause-answered g c =

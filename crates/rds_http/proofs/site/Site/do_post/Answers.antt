@@ -1,6 +1,6 @@
 use Rattle.std.proofs.Common.{◌≡◌, ◌∙◌, ap, refl}
 use Rattle.rds_http.proofs.Changed.{answers_question, on_ok, takes_posted}
-use Rattle.rds_http.proofs.site.Site.respond_to_post.Goals as goal
+use Rattle.rds_http.proofs.site.Site.do_post.Goals as goal
 
 pub returns-in-Answer-clause-done : goal.returns-in-Answer-clause-done
 returns-in-Answer-clause-done g c =
