@@ -45,12 +45,13 @@ use std::time::Instant;
 /// Where a meeting shows that the file is older than what its replica has sent, edits are refused from then on (409, as
 /// the fault `OwnAhead`), and standard error says so: each would fork the replica.
 ///
-/// There are at most 1,024 clients. Where there is no place or descriptor for another, the oldest of those is let go
-/// that were answered nothing yet, or else the one that has been quiet for longest between two requests; or the other
-/// one, where each has a request or an answer under way or is told of changes. However many descriptors connections
-/// take, enough are left to keep the document. Each client has 30 seconds for a whole request, and to take a byte of an
-/// answer. A body has at most 64 MB, and what waits unread of all clients 256 MB: who sends more is let go. A listener
-/// for which 256 kB wait is let go, and one that was sent nothing for 20 seconds is sent a ping.
+/// There are at most 1,024 clients. Where there is no place or descriptor for another, one is let go: one that was
+/// answered nothing yet, or else one that waits between two requests, or else one with a request or an answer under
+/// way. Of several it is the one that has got no byte of an answer for longest. Who is told of changes keeps its place,
+/// and where all are, the other one is let go. However many descriptors connections take, enough are left to keep the
+/// document. Each client has 30 seconds for a whole request, and to take a byte of an answer. A body has at most 64 MB,
+/// and what waits unread of all clients 256 MB: who sends more is let go. A listener for which 256 kB wait is let go,
+/// and one that was sent nothing for 20 seconds is sent a ping.
 ///
 /// Where the words ask for a log, standard output has a line for each request that the site was asked: the client's
 /// address, the method, the target, the status, how many bytes the answer's body has, and how many microseconds passed
