@@ -60,8 +60,9 @@ use std::time::Instant;
 ///
 /// There are at most 64 peers. One that can't be found or met, that refuses, or that brings what is refused is tried
 /// again after 1, 2, 4, and then each 8 seconds. Its name is looked up again where no connection could be made.
-/// Standard error has a line where that begins and ends. The responses that are under way have at most 256 MB. Every 30
-/// seconds a byte has to go, or 1 kB to come, or a response to begin or to end.
+/// Standard error has a line where that begins and ends, and `/status` says how each peer stands. The responses that
+/// are under way have at most 256 MB. Every 30 seconds a byte has to go, or 1 kB to come, or a response to begin or to
+/// end.
 pub fn run_site<H: Disk + Net + RandomSource + Print>(rt: &H, words: &SiteWords<'_>) -> Fault
 where
     H::File: LockFile,
@@ -110,6 +111,7 @@ where
         site: Site::new(rt.alloc(), file, access),
         log: log_of(rt.alloc(), words.log),
         client: address,
+        forks: 0,
         is_behind: false,
     };
     let _ = eprintln!(rt; "listening on http://{address}/");
