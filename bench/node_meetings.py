@@ -208,8 +208,14 @@ def try_told_fork(make, asked, folder):
     with running(a), running(b), running(c):
         due = [(1, 0, 1), (2, 1, 1), (1, 1, 0)]
         are_counted(nodes, due)
-        told, words = [node.status()["peers"] for node in nodes], ("named", "met", "forked")
-        want(told == [dict(zip(words, counts)) for counts in due], f"of their peers /status tells {told}")
+        told = [node.status()["peers"] for node in nodes]
+        counts = [tuple(peers[word] for word in ("named", "met", "forked")) for peers in told]
+        want(counts == due, f"of their peers /status tells {told}")
+        for node, port in (a, b.port), (b, a.port):
+            node.stands(port, False, "28 Forked")
+            soon(lambda: node.status()["callers"]["forked"], "of a fork that calls nothing is told", 10 * slow)
+        b.stands(c.port, True)
+        want(not c.status()["callers"]["forked"], "of a peer that calls and is met a fork is told")
         want(all(node.count("rds_peer_refusals_total") for node in (a, b)), "a fork isn't counted as a refusal")
         values = [value_at(node, "fork/x") for node in (a, b, c)]
         want(values[0] != values[1] == values[2], f"a fork changes what stands there: {values}")
@@ -228,4 +234,5 @@ def try_told_fork(make, asked, folder):
         for node, port in (a, b.port), (b, a.port):
             lines = lines_of(node, port)
             want(len(lines) == 2 and lines[1] == "met", f"of a fork that was settled is told {lines}")
+            node.stands(port, True, "28 Forked")
     return "a fork that no delta shows is told by 28 at both ends, once, and ends once nothing differs"

@@ -186,6 +186,8 @@ def try_token(asked, folder):
         with running(b):
             stack.enter_context(running(a))
             tells(a, b.port, ["refused", "401"])
+            a.stands(b.port, False, "refused: 401: the token is due")
+            want(a.standing(b.port)["ago"] is None, "a peer that was never met is said to be")
             put(a, 1)
             soon(lambda: a.count("rds_peer_refusals_total") > 1, "a peer that refuses isn't asked again", 10 * a.slow)
             counts = a.count("rds_peers_met"), shows(b, 1), len(told(a, b.port))
@@ -196,6 +198,8 @@ def try_token(asked, folder):
             are_equal(nodes)
             tells(a, b.port, ["met"])
             are_met(a, 1)
+            a.stands(b.port, True)
+            want(a.standing(b.port)["ago"] < 10 * a.slow, f"a peer that is met is said to be {a.standing(b.port)}")
     return f"another token is refused, and the right one lets in after {took:.1f} s"
 
 
@@ -332,6 +336,12 @@ def try_fork(asked, folder):
         tells(copy, a.port, ["21", "SameReplica"])
         tells(older, b.port, ["10", "OwnAhead"])
         tells(b, met.port, ["10", "OwnAhead"])
+        copy.stands(a.port, False, "brings what is refused: 21 SameReplica")
+        older.stands(b.port, False, "brings what is refused: 10 OwnAhead")
+        b.stands(met.port, False, "refused: 409: 10 OwnAhead")
+        behind = [(node.status()["behind"], node.count("rds_behind")) for node in (a, b, copy, older, met)]
+        due = [(False, 0)] * 3 + [(True, 1)] * 2
+        want(behind == due, f"nodes of which the last two are behind say so by {behind}")
         for node in copy, older:
             counts = node.count("rds_peer_refusals_total"), node.count("rds_peers_met")
             want(counts[0] and not counts[1], f"a fork is refused and met {counts} times")
@@ -370,6 +380,7 @@ def try_gone(asked, folder):
     a.meets(b.port)
     with running(a):
         tells(a, b.port, ["lost"])
+        a.stands(b.port, False, "lost: Connection refused")
         put(a, 1)
         took = []
         for number in 1, 3:

@@ -210,8 +210,9 @@ def judge_given_up(node, links, least, most, what):
 
 
 def try_places(asked, folder):
-    """Where all places are taken a new client gets that of the oldest that has asked nothing, and then of who has been
-    quiet for longest. Who hears of changes keeps its place, and where all do none is served."""
+    """Where all places are taken a new client gets that of the oldest that has asked nothing, then of who has been quiet
+    for longest, and then of who has begun a request. Who hears of changes keeps its place, and where all do none is
+    served."""
     node = Node(asked.program, folder, TOKEN)
     node.slow = asked.slow
     with running(node), contextlib.ExitStack() as stack:
@@ -237,6 +238,15 @@ def try_places(asked, folder):
         are_served(node, f"{len(quiet):,} connections that are quiet")
         judge_given_up(node, quiet, 1, 10, "are quiet")
         want(live.frame(LIMIT), "a listener hears nothing beside quiet connections")
+        begun = [link for link in quiet if link.socket.fileno() >= 0 and not has_ended(link.socket, b"G")]
+        while len(begun) < PLACES - 2:
+            begun += opened([node.link()])
+            want(begun[-1].answer(node.text("GET", "/status")).status == 200, "one of many isn't served")
+            begun[-1].socket.sendall(b"G")
+        kept.socket.sendall(b"G")
+        time.sleep(1)
+        are_served(node, f"{len(begun):,} connections that have begun a request")
+        judge_given_up(node, begun, 1, 10, "have begun a request")
         listeners = opened(listener(node) for _ in range(PLACES - 1))
         with node.link() as link:
             want(not is_served(node) and link.is_ended(LIMIT), f"one more is served than {PLACES:,} listeners")

@@ -153,6 +153,20 @@ class Node:
     def status(self):
         return json.loads(self.answer("GET", "/status").body)
 
+    def standing(self, port):
+        """What /status says of the peer at this port."""
+        named = [peer for peer in self.status()["peers"]["each"] if peer["name"] == f"{HOST}:{port}"]
+        return named[0] if named else {"met": None, "ago": None, "why": None}
+
+    def stands(self, port, met, *words):
+        """Waits until /status says of a peer whether it is met, and why not, in these words. It is a second behind."""
+
+        def is_due():
+            peer = self.standing(port)
+            return peer["met"] is met and all(word in (peer["why"] or "") for word in words)
+
+        soon(is_due, lambda: f"of a peer /status tells {self.standing(port)}", 10 * self.slow)
+
     def shown(self):
         return json.loads(self.told("show", "a.rds"))
 

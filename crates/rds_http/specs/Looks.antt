@@ -10,6 +10,8 @@ use Rattle.http_header.specs.HeaderMap.{Entries}
 use Rattle.http_server.specs.declared.response.Response.{Response}
 use Rattle.http_server.specs.Response.{IsResponse}
 use Rattle.percent_encoding.specs.Percent.{percent_decode}
+use Rattle.serde_json.specs.Data.{Data}
+use Rattle.serde_json.specs.Written.{IsInOrder}
 use Rattle.rds_keep.specs.Sums.{EncodesFile}
 use Rattle.rds_lines.specs.Overview.{IsOverview}
 use Rattle.rds_listing.specs.Conflicts.{conflicts_text}
@@ -77,20 +79,35 @@ ShowsValue headers state place response =
     ((text : List ℕ) × IsValueAt state place text × TellsOf headers state json text response)
     ⊎ ((fault : Fault) × ((fault ≡ Memory) ⊎ IsNoPlace place fault) × TellsFault fault response)
 
--- how many other nodes there are, how many of them were met when they were called last, and how many have a fork
-abbrev pub peers_text : PeerCounts → List ℕ
-peers_text peers =
+-- the text is JSON, of some value
+abbrev pub IsJson : List ℕ → Type 0
+IsJson text = (value : Data) × IsInOrder text value
+
+abbrev pub truth_text : Bool → List ℕ
+truth_text truth = if truth then codes "true" else codes "false"
+
+-- how many other nodes there are, how many of them were met when they were called last, how many have a fork, and how
+-- each stands
+abbrev pub peers_text : PeerCounts → List ℕ → List ℕ
+peers_text peers each =
     codes ",\"peers\":{\"named\":" ++ (decimal peers.named ++ (codes ",\"met\":" ++ (decimal peers.met
-    ++ (codes ",\"forked\":" ++ (decimal peers.forked ++ codes "}}")))))
+    ++ (codes ",\"forked\":" ++ (decimal peers.forked ++ (codes ",\"each\":" ++ (each ++ codes "}")))))))
 
--- an object of JSON with these as its last member
-abbrev pub with_peers : List ℕ → PeerCounts → List ℕ
-with_peers object peers = take (length object - 1) object ++ peers_text peers
+-- how many requests came of a fork, and whether the file is behind
+abbrev pub callers_text : PeerCounts → List ℕ
+callers_text peers =
+    codes ",\"callers\":{\"forked\":" ++ (decimal peers.forks ++ (codes "},\"behind\":"
+    ++ (truth_text peers.is_behind ++ codes "}")))
 
--- the status of a document, with what was counted of the other nodes
+-- an object of JSON with these as its last members
+abbrev pub with_peers : List ℕ → PeerCounts → List ℕ → List ℕ
+with_peers object peers each = (take (length object - 1) object ++ peers_text peers each) ++ callers_text peers
+
+-- the status of a document, with what was counted of the other nodes and how each stands
 abbrev pub ShowsStatus : ReplicaValue → Response → Type 0
 ShowsStatus document response =
-    ((text : List ℕ) × IsOverview document text × (peers : PeerCounts) × Tells 200 json (with_peers text peers) response)
+    ((text : List ℕ) × IsOverview document text × (peers : PeerCounts) × (each : List ℕ) × IsJson each
+    × Tells 200 json (with_peers text peers each) response)
     ⊎ TellsFault Memory response
 
 -- the field that tells the number of a replica

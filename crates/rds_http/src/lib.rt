@@ -27,7 +27,7 @@ mod tracked;
 
 pub use access::Access;
 pub use asked::LONGEST_QUESTION;
-pub use metrics::PeerCounts;
+pub use metrics::{PeerCounts, PeerStanding};
 pub use rds_store::Lacks;
 pub use site::Site;
 pub use tag::Tag;

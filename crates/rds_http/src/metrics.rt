@@ -1,9 +1,14 @@
-//! What a site counts.
+//! What a site counts, and what is noted of other nodes.
+ghost use Rattle.std.specs.Prelude.{◌≡◌, IfOk, string_bytes};
+ghost use Rattle.rds_http.specs.Looks.{IsJson};
 
+use crate::site::Site;
+use rds_files::Disk;
 use rds_output::Reply;
+use serde_json::{Value, json};
 use std::alloc::{AllocError, Global};
 
-/// The other nodes that are named, and what came of meeting them since the start.
+/// The other nodes that are named, what came of meeting them since the start, and what their requests have shown.
 #[derive(Clone, Copy, Debug)]
 pub struct PeerCounts {
     /// How many nodes are named.
@@ -16,10 +21,27 @@ pub struct PeerCounts {
     pub refused: u64,
     /// Exchanges that went through.
     pub exchanges: u64,
+    /// How many requests came of a fork of the document.
+    pub forks: u64,
+    /// Whether the file is known to be older than what its replica has sent.
+    pub is_behind: bool,
+}
+
+/// How another node stands.
+#[derive(Drop)]
+pub struct PeerStanding {
+    /// Its host and port, as it was named.
+    pub name: String,
+    /// Whether it was met when it was called last.
+    pub is_met: bool,
+    /// How many seconds ago an exchange with it went through, where one did.
+    pub ago: Option<u64>,
+    /// Why the last exchange that didn't go through broke off, where one did.
+    pub why: Option<String>,
 }
 
 /// What was counted since the start. A full count stays.
-#[derive(Clone, Copy, Debug)]
+#[derive(Drop)]
 pub struct Metrics {
     /// Edits that were done.
     pub edits: u64,
@@ -37,6 +59,8 @@ pub struct Metrics {
     pub listeners: usize,
     /// The other nodes.
     pub peers: PeerCounts,
+    /// How each of them stands, where that was noted.
+    standings: Option<Vec<PeerStanding>>,
 }
 
 impl Metrics {
@@ -56,7 +80,10 @@ impl Metrics {
                 forked: 0,
                 refused: 0,
                 exchanges: 0,
+                forks: 0,
+                is_behind: false,
             },
+            standings: None,
         }
     }
 
@@ -97,19 +124,58 @@ impl Metrics {
             clients,
             listeners,
             peers,
-        } = *self;
+            standings: _,
+        } = self;
         let mut text = String::new(alloc);
-        push_line(&mut text, "rds_edits_total", "counter", edits)?;
-        push_line(&mut text, "rds_edits_refused_total", "counter", refused)?;
-        push_line(&mut text, "rds_takes_total", "counter", takes)?;
-        push_line(&mut text, "rds_syncs_total", "counter", syncs)?;
-        push_line(&mut text, "rds_requests_total", "counter", requests)?;
-        push_line(&mut text, "rds_clients", "gauge", clients as u64)?;
-        push_line(&mut text, "rds_listeners", "gauge", listeners as u64)?;
+        push_line(&mut text, "rds_edits_total", "counter", *edits)?;
+        push_line(&mut text, "rds_edits_refused_total", "counter", *refused)?;
+        push_line(&mut text, "rds_takes_total", "counter", *takes)?;
+        push_line(&mut text, "rds_syncs_total", "counter", *syncs)?;
+        push_line(&mut text, "rds_requests_total", "counter", *requests)?;
+        push_line(&mut text, "rds_clients", "gauge", *clients as u64)?;
+        push_line(&mut text, "rds_listeners", "gauge", *listeners as u64)?;
         push_line(&mut text, "rds_live_entries", "gauge", live as u64)?;
-        push_peers(&mut text, peers)?;
+        push_peers(&mut text, *peers)?;
         Ok(text)
     }
+
+    /// How each of the other nodes stands: an array of JSON, empty where that wasn't noted.
+    pub fn standings_json(&self, alloc: Global) -> Result<String, AllocError>
+        ensures { IfOk result (λ text. IsJson (string_bytes text)) }
+    {
+        let mut items = Vec::new(alloc);
+        if let Some(standings) = &self.standings {
+            for standing in standings.as_slice() {
+                items.push(standing_value(alloc, standing)?)?;
+            }
+        }
+        let value = Value::Array(items);
+        value.to_string(alloc)
+    }
+}
+
+impl<H: Disk> Site<'_, H> {
+    /// Notes how each of the other nodes stands, for the status.
+    pub fn note_standings(&mut self, standings: Vec<PeerStanding>)
+        ensures { self.new ≡ self.old }
+    {
+        self.metrics.standings = Some(standings);
+    }
+}
+
+/// How a node stands as JSON.
+fn standing_value(alloc: Global, standing: &PeerStanding) -> Result<Value, AllocError> {
+    let ago = match standing.ago {
+        Some(seconds) => Value::from(seconds),
+        None => Value::Null,
+    };
+    let why = match &standing.why {
+        Some(text) => Value::try_from_str(alloc, text.as_str())?,
+        None => Value::Null,
+    };
+    let name = standing.name.as_str();
+    let is_met = standing.is_met;
+    json!(in alloc; {"name": name, "met": is_met, "ago": ago, "why": why})
 }
 
 /// Adds the lines of the other nodes.
@@ -120,12 +186,16 @@ fn push_peers(text: &mut String, peers: PeerCounts) -> Result<(), AllocError> {
         forked,
         refused,
         exchanges,
+        forks,
+        is_behind,
     } = peers;
     push_line(text, "rds_peers", "gauge", named as u64)?;
     push_line(text, "rds_peers_met", "gauge", met as u64)?;
     push_line(text, "rds_peers_forked", "gauge", forked as u64)?;
     push_line(text, "rds_peer_refusals_total", "counter", refused)?;
-    push_line(text, "rds_peer_exchanges_total", "counter", exchanges)
+    push_line(text, "rds_peer_exchanges_total", "counter", exchanges)?;
+    push_line(text, "rds_caller_forks_total", "counter", forks)?;
+    push_line(text, "rds_behind", "gauge", u64::from(is_behind))
 }
 
 /// Adds the lines of one number: its type, and what it is.

@@ -10,6 +10,7 @@ ghost use Rattle.rds_store.specs.Looks.{RefusesPlace, here_text, view_text};
 ghost use Rattle.rds_http.specs.Changes.{AnswersQuestion};
 ghost use Rattle.rds_http.specs.Looks.{
   AnswersLook,
+  IsJson,
   IsNoPlace,
   IsToldOf,
   IsValueAt,
@@ -72,7 +73,7 @@ pub fn look<H: Disk>(
         Look::Here => show_here(alloc, file.document(), place, headers, response),
         Look::Value => show_value(alloc, file.document(), place, headers, response),
         Look::Conflicts => show_conflicts(alloc, file.document(), place, headers, response),
-        Look::Status => show_status(alloc, file.document(), metrics.peers, response),
+        Look::Status => show_status(alloc, file.document(), metrics, response),
         Look::Metrics => show_metrics(alloc, file.document(), metrics, response),
         Look::Ask => show_question(alloc, file, headers, response),
         Look::Snapshot => show_snapshot(alloc, file.document(), response),
@@ -368,11 +369,11 @@ fn show_page(response: &mut Response) -> Result<(), AllocError>
     response.body.push(Bytes::from_static(PAGE.as_bytes()))
 }
 
-/// Answers with whose replica the document is, how much there is of it, and how many other nodes there are.
+/// Answers with whose replica the document is, how much there is of it, and how the other nodes stand.
 fn show_status(
     alloc: Global,
     document: &Document,
-    peers: PeerCounts,
+    metrics: &Metrics,
     response: &mut Response,
 ) -> Result<(), AllocError>
     requires { IsBlank response.old }
@@ -380,16 +381,18 @@ fn show_status(
 {
     match document.status() {
         Ok(text) => {
-            let body = with_peers(alloc, text, peers)?;
+            let body = with_peers(alloc, text, metrics)?;
             fill(response, StatusCode::OK, JSON, body)
         }
         Err(fault) => refuse(alloc, fault, response),
     }
 }
 
-/// An object of JSON, with how many other nodes there are as its last member.
-fn with_peers(alloc: Global, object: String, peers: PeerCounts) -> Result<Vec<u8>, AllocError>
-    ensures { IfOk result (λ bytes. bytes.items ≡ with_peers (string_bytes object) peers) }
+/// An object of JSON, with how many other nodes there are, how each of them stands, and what they have shown as its last
+/// members.
+fn with_peers(alloc: Global, object: String, metrics: &Metrics) -> Result<Vec<u8>, AllocError>
+    ensures { IfOk result (λ bytes. (each : List ℕ) × IsJson each
+        × (bytes.items ≡ with_peers (string_bytes object) metrics.now.peers each)) }
 {
     let PeerCounts {
         named,
@@ -397,13 +400,18 @@ fn with_peers(alloc: Global, object: String, peers: PeerCounts) -> Result<Vec<u8
         forked,
         refused: _,
         exchanges: _,
-    } = peers;
+        forks,
+        is_behind,
+    } = metrics.peers;
+    let each = metrics.standings_json(alloc)?;
     let told = format!(in alloc;
-        ",\"peers\":{{\"named\":{named},\"met\":{met},\"forked\":{forked}}}}}"
+        ",\"peers\":{{\"named\":{named},\"met\":{met},\"forked\":{forked},\"each\":{each}}}"
     )?;
+    let shown = format!(in alloc; ",\"callers\":{{\"forked\":{forks}}},\"behind\":{is_behind}}}")?;
     let mut bytes = object.into_bytes();
     bytes.truncate(bytes.len().saturating_sub(1));
     bytes.extend_from_slice(told.as_bytes())?;
+    bytes.extend_from_slice(shown.as_bytes())?;
     Ok(bytes)
 }
 

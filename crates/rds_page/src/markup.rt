@@ -38,6 +38,9 @@ macro_rules! with_markup {
 <p id="rivals" class="notice" hidden><span id="rivals-text"></span>
 <button id="rivals-next" type="button">Show</button></p>
 <p id="forked" class="notice" hidden></p>
+<p id="apart" class="notice" hidden></p>
+<p id="behind" class="notice" hidden>The node's file is older than what its replica has sent, as a backup is.
+It takes no edits until it is joined with a peer's.</p>
 <form id="login" hidden>
 <h2>This node asks for a token</h2>
 <p><input id="token" type="password" aria-label="Token" placeholder="Token" autocomplete="current-password" required>

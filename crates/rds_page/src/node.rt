@@ -339,6 +339,7 @@ async function loadStatus() {
   at("own").textContent = `at ${status.own}`;
   at("copy").download = `${status.group}-${status.own}.rds`;
   drawFacts();
+  drawPeers();
 }
 
 // What the node has counted. This costs little.
@@ -346,6 +347,8 @@ async function loadCounts() {
   const text = await ask("/metrics");
   const countOf = name => Number(text.match(new RegExp(`^rds_${name} (\\d+)$`, "m"))?.[1] ?? 0);
   counts = { live: countOf("live_entries"), peers: countOf("peers"), met: countOf("peers_met") };
+  const isAsTold = status && counts.met === status.peers.met && countOf("behind") === Number(status.behind);
+  if (!isAsTold || counts.met < counts.peers) overview.due();
   const forked = countOf("peers_forked");
   at("forked").hidden = forked === 0;
   at("forked").textContent = `${counted(forked, "peer has", "peers have")} seen the same and ${forked === 1 ? "holds" :
@@ -362,6 +365,14 @@ function drawFacts() {
   facts.push(`${status.names.length === 1 ? "replica" : "replicas"} ${names.join(", ")}`);
   if (counts.peers > 0) facts.push(`${counts.met} of ${counted(counts.peers, "peer", "peers")} met`);
   at("facts").textContent = facts.join(" · ");
+}
+
+// Tells which peers aren't met and why, and where the node refuses edits.
+function drawPeers() {
+  const apart = status.peers.each.filter(({ met, why }) => !met && why).map(({ name, why }) => `Peer ${name}: ${why}`);
+  at("apart").hidden = apart.length === 0;
+  at("apart").textContent = apart.join(" · ");
+  at("behind").hidden = !status.behind;
 }
 
 // ---- what has changed
@@ -439,7 +450,7 @@ async function showNextRival() {
 function askForToken() {
   if (!at("login").hidden) return;
   at("login").hidden = false;
-  for (const id of ["tree", "tools", "keys", "rivals", "forked", "copy"]) at(id).hidden = true;
+  for (const id of ["tree", "tools", "keys", "rivals", "forked", "apart", "behind", "copy"]) at(id).hidden = true;
   tellLink("", "Waiting for a token");
   lose();
   at("token").focus();

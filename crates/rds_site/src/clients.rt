@@ -69,11 +69,22 @@ impl Load {
     }
 }
 
-/// Since when a client is quiet that may be given up for another. Those that were answered nothing yet come before the
-/// others, and of two the one that has been quiet for longer.
-#[derive(Clone, Copy, PartialEq, Eq, PartialOrd, Ord)]
-pub struct Quiet {
-    is_answered: bool,
+/// What a client is at that may be given up for another. Who loses least comes first.
+#[derive(Clone, Copy, Debug, PartialEq, Eq, PartialOrd, Ord)]
+enum Stage {
+    /// It was answered nothing yet.
+    New,
+    /// It waits between two requests.
+    Idle,
+    /// A further request or an answer is under way.
+    Busy,
+}
+
+/// What a client is at that may be given up for another, and since when it has got no byte of an answer. The least gives
+/// way first: of two at one stage that is the one that has waited for longer.
+#[derive(Clone, Copy, Debug, PartialEq, Eq, PartialOrd, Ord)]
+pub struct Rank {
+    stage: Stage,
     since: Instant,
 }
 
@@ -139,27 +150,30 @@ impl Client {
         !may_wait && PATIENCE <= now.duration_since(self.since).as_secs()
     }
 
-    /// Since when it is quiet, where it may be given up for another: it isn't told of changes, no answer is under way
-    /// to it, and no further request where it was answered one.
-    pub fn quiet(&self) -> Option<Quiet> {
-        let Load {
-            unread,
-            is_answered,
-            ..
-        } = self.load;
-        let is_asking = is_answered && (self.is_listed || unread != 0);
-        let is_busy = match &self.talk {
-            Talk::Http(connection) => connection.wants_write() || is_asking,
-            Talk::Live(_) => true,
-            Talk::Last => false,
-        };
-        if is_busy || self.is_resting {
-            return None;
-        }
-        Some(Quiet {
-            is_answered,
+    /// What it is at and since when, where it may be given up for another: it isn't told of changes.
+    pub fn rank(&self) -> Option<Rank> {
+        Some(Rank {
+            stage: self.stage()?,
             since: self.since,
         })
+    }
+
+    fn stage(&self) -> Option<Stage> {
+        let is_begun = self.is_listed || self.load.unread != 0;
+        let is_busy = match &self.talk {
+            Talk::Http(connection) => {
+                connection.wants_write() || self.load.is_answered && is_begun
+            }
+            Talk::Live(_) => return None,
+            Talk::Last => false,
+        };
+        if is_busy {
+            Some(Stage::Busy)
+        } else if self.load.is_answered {
+            Some(Stage::Idle)
+        } else {
+            Some(Stage::New)
+        }
     }
 
     /// Has it be sent a ping, where it is a listener to which nothing was sent for a while. Answers whether it is.

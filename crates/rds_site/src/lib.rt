@@ -1,8 +1,8 @@
 //! The loop of a node: a site that runs. One process and one thread hold a document in its file, and serve it over
 //! HTTP, and meet other nodes over theirs. Read `words`, `addresses`, `secrets`; then `committed`, `reserve`, `behind`,
-//! `logging`, `sockets`, `listeners`, `clients`, `table`; then `destinations`, `schedule`, `requests`, `troubles`,
-//! `channels`, `levels`, `exchanges`, `peers`, `peer_table`; then `arrivals`, `turns`, `running`. A node that is
-//! called: `calling`; by a file that meets it, `visiting`; by a command, `asking`.
+//! `forks`, `logging`, `sockets`, `listeners`, `clients`, `table`; then `destinations`, `schedule`, `requests`,
+//! `troubles`, `channels`, `levels`, `exchanges`, `peers`, `peer_table`; then `arrivals`, `turns`, `running`. A node that
+//! is called: `calling`; by a file that meets it, `visiting`; by a command, `asking`.
 #![tactic(auto)]
 
 mod addresses;
@@ -15,6 +15,7 @@ mod clients;
 mod committed;
 mod destinations;
 mod exchanges;
+mod forks;
 mod levels;
 mod listeners;
 mod logging;

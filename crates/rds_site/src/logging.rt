@@ -4,6 +4,7 @@ ghost use Rattle.http_server.specs.Response.{IsBlank};
 ghost use Rattle.rds_site.specs.Behind.{AnswersOrRefuses, is_edit};
 
 use crate::behind::{is_edit, refuse_edit, shows_behind};
+use crate::forks::{is_told_question, names_fork};
 use bytes::Bytes;
 use http::{Method, Request};
 use http_server::{Response, Service};
@@ -63,6 +64,8 @@ pub struct LoggedSite<'a, H: Disk> {
     pub log: Option<Log>,
     /// Who asks.
     pub client: SocketAddr,
+    /// How many requests came of a fork. A full count stays.
+    pub forks: u64,
     /// Whether the file is known to be older than what its replica has sent.
     pub is_behind: bool,
 }
@@ -74,6 +77,7 @@ impl<H: Disk> Drop for LoggedSite<'_, H> {
             site: _site,
             log: _log,
             client: _,
+            forks: _,
             is_behind: _,
         } = self;
     }
@@ -126,7 +130,23 @@ where
         }
         self.site.call(request, response)?;
         self.is_behind |= shows_behind(request, response);
+        self.note_fork(request, response);
         Ok(())
+    }
+
+    // Counts a request that came of a fork.
+    fn note_fork(&mut self, request: &Request<Bytes>, response: &Response)
+        ensures site { self.new.site ≡ self.old.site }
+        ensures behind { self.new.is_behind ≡ self.old.is_behind }
+    {
+        if !is_told_question(request, response) {
+            return;
+        }
+        if let Ok(own) = self.site.tag() {
+            if names_fork(request, &own) {
+                self.forks = self.forks.saturating_add(1);
+            }
+        }
     }
 }
 

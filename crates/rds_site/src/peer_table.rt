@@ -7,7 +7,7 @@ use crate::sockets::Line;
 use crate::troubles::Standing;
 use mio::{Registry, Token};
 use rds_files::{Disk, LockFile};
-use rds_http::{PeerCounts, Site};
+use rds_http::{PeerCounts, PeerStanding, Site};
 use std::alloc::{AllocError, Global};
 use std::net::Net;
 use std::time::{Duration, Instant};
@@ -21,6 +21,7 @@ const MOST_ROOM: usize = 268_435_456;
 /// The peers of a site, and what was counted of them.
 #[derive(Drop)]
 pub struct Peers<'a> {
+    alloc: Global,
     table: Vec<Peer<'a>>,
     // How many exchanges were done, and how many were refused.
     exchanges: u64,
@@ -40,21 +41,33 @@ impl<'a> Peers<'a> {
             table.push(Peer::new(destination, every, now))?;
         }
         Ok(Peers {
+            alloc,
             table,
             exchanges: 0,
             refused: 0,
         })
     }
 
-    /// What was counted.
-    pub fn counts(&self) -> PeerCounts {
+    /// What was counted, beside how many requests came of a fork, and whether the file is behind.
+    pub fn counts(&self, forks: u64, is_behind: bool) -> PeerCounts {
         PeerCounts {
             named: self.table.len(),
             met: self.count_of(Standing::Met),
             forked: self.count_of(Standing::Forked),
             refused: self.refused,
             exchanges: self.exchanges,
+            forks,
+            is_behind,
         }
+    }
+
+    /// How each of them stands.
+    pub fn standings(&self, now: Instant) -> Result<Vec<PeerStanding>, AllocError> {
+        let mut standings = Vec::with_capacity(self.alloc, self.table.len())?;
+        for peer in self.table.as_slice() {
+            standings.push(peer.told(self.alloc, now)?)?;
+        }
+        Ok(standings)
     }
 
     // How many stand so.

@@ -5,10 +5,10 @@ use crate::destinations::Destination;
 use crate::exchanges::{Exchange, Progress};
 use crate::schedule::{Schedule, after};
 use crate::sockets::{Line, Socket};
-use crate::troubles::{End, Standing, Trouble};
+use crate::troubles::{End, FORKED, Standing, Trouble};
 use rds_files::{Disk, LockFile};
-use rds_http::Site;
-use std::alloc::Global;
+use rds_http::{PeerStanding, Site};
+use std::alloc::{AllocError, Global};
 use std::mem;
 use std::net::Net;
 use std::time::{Duration, Instant};
@@ -58,6 +58,9 @@ pub struct Peer<'a> {
     link: Link,
     schedule: Schedule,
     standing: Standing,
+    // When an exchange with it went through last, and why the last one broke off that did.
+    met: Option<Instant>,
+    why: Option<String>,
     // Whether it is heard in this turn, or in the next without an event.
     is_listed: bool,
 }
@@ -77,6 +80,8 @@ impl<'a> Peer<'a> {
             link: Link::Away,
             schedule,
             standing,
+            met: None,
+            why: None,
             is_listed: false,
         }
     }
@@ -84,6 +89,20 @@ impl<'a> Peer<'a> {
     /// How it stands.
     pub fn standing(&self) -> Standing {
         self.standing
+    }
+
+    /// How it stands, as is told of it.
+    pub fn told(&self, alloc: Global, now: Instant) -> Result<PeerStanding, AllocError> {
+        let why = match &self.why {
+            Some(why) => Some(String::from_str(alloc, why.as_str())?),
+            None => None,
+        };
+        Ok(PeerStanding {
+            name: String::from_str(alloc, self.destination.name())?,
+            is_met: self.standing == Standing::Met,
+            ago: self.met.map(|met| now.duration_since(met).as_secs()),
+            why,
+        })
     }
 
     /// Has it be heard in the turn that begins.
@@ -105,7 +124,7 @@ impl<'a> Peer<'a> {
     }
 
     /// Lets it go, since its response takes too much room.
-    pub fn give_up<H: Eprint>(&mut self, rt: &H, now: Instant) -> Outcome {
+    pub fn give_up<H: Eprint + AllocGlobal>(&mut self, rt: &H, now: Instant) -> Outcome {
         self.fail(rt, Trouble::TooLong, now)
     }
 
@@ -182,7 +201,12 @@ impl<'a> Peer<'a> {
         }
     }
 
-    fn note_progress<H: Eprint>(&mut self, rt: &H, progress: Progress, now: Instant) -> Outcome {
+    fn note_progress<H: Eprint + AllocGlobal>(
+        &mut self,
+        rt: &H,
+        progress: Progress,
+        now: Instant,
+    ) -> Outcome {
         match progress {
             Progress::Part { brought } => Outcome {
                 counted: Counted::Nothing,
@@ -191,7 +215,7 @@ impl<'a> Peer<'a> {
             Progress::Ended { end, brought } => {
                 self.schedule.end(now);
                 Outcome {
-                    counted: self.note_end(rt, end),
+                    counted: self.note_end(rt, end, now),
                     brought,
                 }
             }
@@ -208,15 +232,21 @@ impl<'a> Peer<'a> {
     }
 
     // Notes how it stands after an exchange, and tells of it where that is new.
-    fn note_end<H: Eprint>(&mut self, rt: &H, end: End) -> Counted {
+    fn note_end<H: Eprint + AllocGlobal>(&mut self, rt: &H, end: End, now: Instant) -> Counted {
         let standing = self.standing.after(end);
         if self.standing != standing {
             self.standing = standing;
             standing.tell(rt, self.destination.name());
         }
         match end {
-            End::Level | End::Done => Counted::Done,
-            End::Forked => Counted::Refused,
+            End::Level | End::Done => {
+                self.met = Some(now);
+                Counted::Done
+            }
+            End::Forked => {
+                self.why = String::from_str(rt.alloc(), FORKED).ok();
+                Counted::Refused
+            }
         }
     }
 
@@ -228,7 +258,7 @@ impl<'a> Peer<'a> {
 
     // The exchange failed. Where another address wasn't tried yet, that one is next, at once and without a word. Where
     // no connection could be made to any, the peer may be elsewhere by now.
-    fn fail<H: Eprint>(&mut self, rt: &H, trouble: Trouble, now: Instant) -> Outcome {
+    fn fail<H: Eprint + AllocGlobal>(&mut self, rt: &H, trouble: Trouble, now: Instant) -> Outcome {
         let was_open = matches!(self.link, Link::Open(_));
         self.leave();
         if !was_open {
@@ -238,6 +268,7 @@ impl<'a> Peer<'a> {
             self.destination.doubt();
         }
         self.schedule.fail(now);
+        self.why = format!(in rt.alloc(); "{trouble}").ok();
         let standing = trouble.standing();
         if self.standing != standing {
             self.standing = standing;

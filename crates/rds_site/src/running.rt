@@ -45,12 +45,13 @@ use std::time::Instant;
 /// Where a meeting shows that the file is older than what its replica has sent, edits are refused from then on (409, as
 /// the fault `OwnAhead`), and standard error says so: each would fork the replica.
 ///
-/// There are at most 1,024 clients. Where there is no place or descriptor for another, the oldest of those is let go
-/// that were answered nothing yet, or else the one that has been quiet for longest between two requests; or the other
-/// one, where each has a request or an answer under way or is told of changes. However many descriptors connections
-/// take, enough are left to keep the document. Each client has 30 seconds for a whole request, and to take a byte of an
-/// answer. A body has at most 64 MB, and what waits unread of all clients 256 MB: who sends more is let go. A listener
-/// for which 256 kB wait is let go, and one that was sent nothing for 20 seconds is sent a ping.
+/// There are at most 1,024 clients. Where there is no place or descriptor for another, one is let go: one that was
+/// answered nothing yet, or else one that waits between two requests, or else one with a request or an answer under
+/// way. Of several it is the one that has got no byte of an answer for longest. Who is told of changes keeps its place,
+/// and where all are, the other one is let go. However many descriptors connections take, enough are left to keep the
+/// document. Each client has 30 seconds for a whole request, and to take a byte of an answer. A body has at most 64 MB,
+/// and what waits unread of all clients 256 MB: who sends more is let go. A listener for which 256 kB wait is let go,
+/// and one that was sent nothing for 20 seconds is sent a ping.
 ///
 /// Where the words ask for a log, standard output has a line for each request that the site was asked: the client's
 /// address, the method, the target, the status, how many bytes the answer's body has, and how many microseconds passed
@@ -59,8 +60,9 @@ use std::time::Instant;
 ///
 /// There are at most 64 peers. One that can't be found or met, that refuses, or that brings what is refused is tried
 /// again after 1, 2, 4, and then each 8 seconds. Its name is looked up again where no connection could be made.
-/// Standard error has a line where that begins and ends. The responses that are under way have at most 256 MB. Every 30
-/// seconds a byte has to go, or 1 kB to come, or a response to begin or to end.
+/// Standard error has a line where that begins and ends, and `/status` says how each peer stands. The responses that
+/// are under way have at most 256 MB. Every 30 seconds a byte has to go, or 1 kB to come, or a response to begin or to
+/// end.
 pub fn run_site<H: Disk + Net + RandomSource + Print>(rt: &H, words: &SiteWords<'_>) -> Fault
 where
     H::File: LockFile,
@@ -109,6 +111,7 @@ where
         site: Site::new(rt.alloc(), file, access),
         log: log_of(rt.alloc(), words.log),
         client: address,
+        forks: 0,
         is_behind: false,
     };
     let _ = eprintln!(rt; "listening on http://{address}/");

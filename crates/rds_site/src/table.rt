@@ -1,5 +1,5 @@
 //! The clients of a site.
-use crate::clients::{Client, Next, Quiet};
+use crate::clients::{Client, Next, Rank};
 use crate::committed::Committed;
 use crate::logging::LoggedSite;
 use crate::schedule::Rest;
@@ -88,26 +88,30 @@ impl Clients {
         }
     }
 
-    /// Lets one go for another that comes, before those are heard that have a turn: the oldest of those that were
-    /// answered nothing yet, or else the one that has been quiet for longest between two requests. Answers whether
-    /// there was one.
+    /// Lets one go for another that comes, before those are heard that have a turn: one that was answered nothing yet, or
+    /// else one that waits between two requests, or else one with a request or an answer under way. Of several it is the
+    /// one that has got no byte of an answer for longest. Answers whether there was one: who is told of changes stays.
     pub fn make_room(&mut self) -> bool {
-        let mut first: Option<(usize, Quiet)> = None;
+        let Some(key) = self.first_to_go() else {
+            return false;
+        };
+        self.due.retain(|due| *due != key);
+        self.resting.retain(|resting| *resting != key);
+        self.remove(key);
+        true
+    }
+
+    // Which client gives way to another.
+    fn first_to_go(&self) -> Option<usize> {
+        let mut first: Option<(usize, Rank)> = None;
         for key in 0..MOST_CLIENTS {
-            if let Some(quiet) = self.table.get(key).and_then(Client::quiet) {
-                if first.is_none_or(|(_, least)| quiet < least) {
-                    first = Some((key, quiet));
+            if let Some(rank) = self.table.get(key).and_then(Client::rank) {
+                if first.is_none_or(|(_, least)| rank < least) {
+                    first = Some((key, rank));
                 }
             }
         }
-        match first {
-            Some((key, _)) => {
-                self.due.retain(|due| *due != key);
-                self.remove(key);
-                true
-            }
-            None => false,
-        }
+        first.map(|(key, _)| key)
     }
 
     // Lets the client of this key go.

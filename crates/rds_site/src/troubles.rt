@@ -7,7 +7,10 @@ use crate::requests::Response;
 use http1::{ReadError, WriteError};
 use rds_names::Fault;
 use std::alloc::AllocError;
-use std::{io, str};
+use std::{fmt, io, str};
+
+/// So many bytes of a peer's own words, or of a fault's name, are told at most: strangers choose them.
+const MOST_TOLD: usize = 200;
 
 /// The faults by which a node refuses a request, and which say no more than their names.
 const NAMED: [Fault; 16] = [
@@ -28,6 +31,9 @@ const NAMED: [Fault; 16] = [
     Fault::SameReplica,
     Fault::Device,
 ];
+
+/// What is told of a peer that is forked.
+pub const FORKED: &str = "has seen the same, and holds different entries: 28 Forked";
 
 /// Why an exchange with a peer broke off.
 #[derive(Drop)]
@@ -141,13 +147,7 @@ impl Standing {
     pub fn tell<H: Eprint>(self, rt: &H, name: &str) {
         let _ = match self {
             Standing::Met => eprintln!(rt; "peer {name}: met"),
-            Standing::Forked => {
-                let number = Fault::Forked.number();
-                let word = Fault::Forked.name();
-                eprintln!(rt;
-                    "peer {name}: has seen the same, and holds different entries: {number} {word}"
-                )
-            }
+            Standing::Forked => eprintln!(rt; "peer {name}: {FORKED}"),
             _ => return,
         };
     }
@@ -199,27 +199,30 @@ impl Trouble {
 
     /// Tells of it on standard error, in a line.
     pub fn tell<H: Eprint>(&self, rt: &H, name: &str) {
-        let _ = match self {
-            Trouble::Memory => eprintln!(rt; "peer {name}: lost: there is no memory"),
-            Trouble::System(error) => eprintln!(rt; "peer {name}: lost: {error}"),
-            Trouble::Ended => eprintln!(rt; "peer {name}: lost: it ended the connection"),
+        let _ = eprintln!(rt; "peer {name}: {self}");
+    }
+}
+
+/// What happened to the peer, and why.
+impl fmt::Display for Trouble {
+    fn fmt<W: fmt::Write>(&self, f: &mut fmt::Formatter<W>) -> fmt::Result {
+        match self {
+            Trouble::Memory => f.write_str("lost: there is no memory"),
+            Trouble::System(error) => write!(f, "lost: {error}"),
+            Trouble::Ended => f.write_str("lost: it ended the connection"),
             Trouble::Silence(seconds) => {
-                eprintln!(rt; "peer {name}: lost: nothing or too little in {seconds} seconds")
+                write!(f, "lost: nothing or too little in {seconds} seconds")
             }
-            Trouble::Garbled(error) => {
-                eprintln!(rt; "peer {name}: lost: its response is no HTTP/1.1: {error}")
-            }
-            Trouble::Foreign => {
-                eprintln!(rt; "peer {name}: lost: is no node: its response has another type")
-            }
-            Trouble::TooLong => eprintln!(rt; "peer {name}: lost: its response is too long"),
-            Trouble::Refused(response) => return tell_refusal(rt, name, response),
+            Trouble::Garbled(error) => write!(f, "lost: its response is no HTTP/1.1: {error}"),
+            Trouble::Foreign => f.write_str("lost: is no node: its response has another type"),
+            Trouble::TooLong => f.write_str("lost: its response is too long"),
+            Trouble::Refused(response) => write_refusal(response, f),
             Trouble::Unfit(fault) => {
                 let number = fault.number();
                 let word = fault.name();
-                eprintln!(rt; "peer {name}: brings what is refused: {number} {word}")
+                write!(f, "brings what is refused: {number} {word}")
             }
-        };
+        }
     }
 }
 
@@ -229,27 +232,25 @@ pub fn tell<H: Eprint>(rt: &H, name: &str, trouble: Trouble) -> Fault {
     trouble.fault()
 }
 
-fn tell_refusal<H: Eprint>(rt: &H, name: &str, response: &Response) {
+fn write_refusal<W: fmt::Write>(response: &Response, f: &mut fmt::Formatter<W>) -> fmt::Result {
     let status = response.head.status;
-    let _ = match (fault_in(&response.body), words_in(&response.body)) {
-        (Some((number, word)), _) => {
-            eprintln!(rt; "peer {name}: refused: {status}: {number} {word}")
-        }
-        (None, Some(words)) => eprintln!(rt; "peer {name}: refused: {status}: {words}"),
-        (None, None) => eprintln!(rt; "peer {name}: refused: {status}"),
-    };
+    match (fault_in(&response.body), words_in(&response.body)) {
+        (Some((number, word)), _) => write!(f, "refused: {status}: {number} {word}"),
+        (None, Some(words)) => write!(f, "refused: {status}: {words}"),
+        (None, None) => write!(f, "refused: {status}"),
+    }
 }
 
 // Why a body says that a request wasn't let in, as `{"status":401,"text":"the token is due"}` does, where a terminal can
-// show that.
+// show that and it isn't long.
 fn words_in(body: &[u8]) -> Option<&str> {
     let (_, rest) = str::from_utf8(body).ok()?.split_once("\"text\":\"")?;
     let (words, _) = rest.split_once('"')?;
-    if words
+    let is_shown = words
         .as_bytes()
         .iter()
-        .all(|b| b.is_ascii_graphic() || *b == b' ')
-    {
+        .all(|b| b.is_ascii_graphic() || *b == b' ');
+    if is_shown && words.len() <= MOST_TOLD {
         Some(words)
     } else {
         None
@@ -264,6 +265,9 @@ fn fault_in(body: &[u8]) -> Option<(u8, &str)> {
     let number = str::from_utf8(digits).ok()?.parse::<u8>().ok()?;
     let rest = behind(b",\"name\":\"", rest)?;
     let end = rest.iter().position(|b| !b.is_ascii_alphabetic())?;
+    if MOST_TOLD < end {
+        return None;
+    }
     let (word, _) = rest.split_at_checked(end)?;
     Some((number, str::from_utf8(word).ok()?))
 }

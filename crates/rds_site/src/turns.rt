@@ -25,9 +25,11 @@ pub struct Turns<'a, H: Disk> {
     clients: Clients,
     peers: Peers<'a>,
     reserve: Reserve<H>,
-    // The time, when it was last looked at, and when clients were last looked at for being overdue.
+    // The time, when it was last looked at, when clients were last looked at for being overdue, and when it was last
+    // noted how peers stand.
     now: Instant,
     swept: Instant,
+    noted: Option<Instant>,
 }
 
 impl<H: Disk> Drop for Turns<'_, H> {
@@ -40,6 +42,7 @@ impl<H: Disk> Drop for Turns<'_, H> {
             reserve: _reserve,
             now: _,
             swept: _,
+            noted: _,
         } = self;
     }
 }
@@ -67,6 +70,7 @@ where
             reserve,
             now,
             swept: now,
+            noted: None,
         }
     }
 
@@ -121,9 +125,7 @@ where
     // Where it shows that the file is behind, that is told once.
     fn hear(&mut self, rt: &H) {
         let was_behind = self.logged.is_behind;
-        let site = &mut self.logged.site;
-        site.note_clients(self.clients.len(), self.clients.listeners());
-        site.note_peers(self.peers.counts());
+        self.note();
         self.clients.hear(rt, &mut self.logged, self.now);
         if self.logged.site.has_changed() {
             self.peers.note_change(self.now);
@@ -133,6 +135,25 @@ where
         self.logged.is_behind |= self.peers.show_behind();
         if self.logged.is_behind && !was_behind {
             tell_behind(rt, self.logged.file);
+        }
+    }
+
+    // Notes for the status and the metrics how many clients there are, and how peers stand: what is counted of them in
+    // each turn, and how each of them stands where the last such note is a second old.
+    fn note(&mut self) {
+        let counts = self.peers.counts(self.logged.forks, self.logged.is_behind);
+        let site = &mut self.logged.site;
+        site.note_clients(self.clients.len(), self.clients.listeners());
+        site.note_peers(counts);
+        let is_due = match self.noted {
+            Some(noted) => self.now.duration_since(noted).as_secs() != 0,
+            None => true,
+        };
+        if is_due {
+            if let Ok(standings) = self.peers.standings(self.now) {
+                site.note_standings(standings);
+                self.noted = Some(self.now);
+            }
         }
     }
 

@@ -6,9 +6,12 @@ use Rattle.rds_http.proofs.reading.show_status.Goals as goal
 
 pub returns-in_ok-body-in-Ok : goal.returns-in_ok-body-in-Ok
 returns-in_ok-body-in-Ok c =
+    let body_is = c.in_ok-body-in-Ok.ensures in
     on_ok c.fill.result (λ told. inl (
       string_bytes c.in-Ok.text,
       c.in-Ok.ensures.told,
-      c.args.peers,
-      subst (λ (body : List ℕ). Tells 200 json body c.fill.new.response) c.in_ok-body-in-Ok.ensures told,
+      c.args.metrics.now.peers,
+      body_is.0,
+      body_is.1.0,
+      subst (λ (body : List ℕ). Tells 200 json body c.fill.new.response) body_is.1.1 told,
     )) c.fill.ensures
