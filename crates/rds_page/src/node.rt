@@ -155,7 +155,7 @@ async function answered(where, body) {
 
 function refusal(text) {
   try {
-    const told = JSON.parse(text);
+    const told = JSON.parse(text.split("\n")[0]);
     return FAULTS[told.fault] || told.text;
   } catch {
     return "";

@@ -111,8 +111,8 @@ impl<'a> Caller<'a> {
         self.destination.name()
     }
 
-    /// Makes a request, and answers the response where it was done, or where what is asked for has the tag. Anything else
-    /// is told on standard error.
+    /// Makes a request, and answers the response where it was done, where what is asked for has the tag, or where it has
+    /// the lines of edits that were refused. Anything else is told on standard error.
     pub fn ask<H: Disk + Net>(
         &mut self,
         rt: &H,
@@ -121,6 +121,7 @@ impl<'a> Caller<'a> {
         let trouble = match self.call(rt, request) {
             Ok(response) => match (response.head.status, request.unless) {
                 (DONE, _) | (NOT_MODIFIED, Some(_)) => return Ok(response),
+                _ if response.has_lines(request) => return Ok(response),
                 _ => Trouble::Refused(response),
             },
             Err(trouble) => trouble,

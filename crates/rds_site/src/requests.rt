@@ -203,6 +203,13 @@ pub struct Response {
     pub body: Vec<u8>,
 }
 
+impl Response {
+    /// Whether it has a line for each edit of the request. Where all of these are refused, its status says so.
+    pub fn has_lines(&self, request: &Request<'_>) -> bool {
+        matches!(request.resource, Resource::Edits) && self.head.is_due
+    }
+}
+
 /// What is said over one connection: one request after the other, each of which is answered.
 #[derive(Drop)]
 pub struct Talk {
