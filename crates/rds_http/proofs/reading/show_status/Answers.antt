@@ -12,6 +12,6 @@ returns-in_ok-body-in-Ok c =
       c.in-Ok.ensures.told,
       c.args.metrics.now.peers,
       body_is.0,
-      body_is.1.0,
-      subst (λ (body : List ℕ). Tells 200 json body c.fill.new.response) body_is.1.1 told,
+      body_is.1,
+      subst (λ (body : List ℕ). Tells 200 json body c.fill.new.response) body_is.2 told,
     )) c.fill.ensures
