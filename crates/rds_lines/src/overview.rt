@@ -27,7 +27,7 @@ use rds_keep::Kept;
 use rds_life::Lives;
 use rds_names::{Fault, Key};
 use rds_output::Reply;
-use rds_state::Replica;
+use rds_state::{Mark, Replica};
 use std::alloc::Global;
 
 /// How much there is of a replica.
@@ -52,30 +52,39 @@ pub fn describe<S: DotSet>(
     ensures memory { IfErr result (λ fault. fault ≡ Memory) }
 {
     let of_file = file_text(alloc, snapshot, records)?;
-    let text = overview_with(alloc, kept.view_of(), of_file.as_str())?;
+    let replica = kept.view_of();
+    let text = overview_with(alloc, replica, replica.state().mark(), of_file.as_str())?;
     Ok(Reply::Shown(text))
 }
 
 /// Whose replica this is and how much there is of it, as JSON: its live entries, dots of dead ones, counters and
-/// components, the bytes of its snapshot in format 2, which is what is written, and the mark of its state.
-pub fn overview_json<S: DotSet>(alloc: Global, replica: &Replica<S>) -> Result<String, Fault>
+/// components, the bytes of its snapshot in format 2, which is what is written, and the mark of its state, which who keeps
+/// it hands in.
+pub fn overview_json<S: DotSet>(
+    alloc: Global,
+    replica: &Replica<S>,
+    mark: Mark,
+) -> Result<String, Fault>
+    requires { mark ≡ mark_of replica.now.state }
     ensures told { IfOk result (λ text. IsOverview replica.now (string_bytes text)) }
     ensures memory { IfErr result (λ fault. fault ≡ Memory) }
 {
-    overview_with(alloc, replica, "")
+    overview_with(alloc, replica, mark, "")
 }
 
 // The same, with what is told of its file.
 fn overview_with<S: DotSet>(
     alloc: Global,
     replica: &Replica<S>,
+    mark: Mark,
     of_file: &str,
 ) -> Result<String, Fault>
+    requires { mark ≡ mark_of replica.now.state }
     ensures told { IfOk result (λ text. IsOverviewWith of_file.now replica.now (string_bytes text)) }
     ensures memory { IfErr result (λ fault. fault ≡ Memory) }
 {
     let amounts = amounts_of(alloc, replica)?;
-    overview_line(alloc, replica, amounts, of_file)
+    overview_line(alloc, replica, amounts, mark, of_file)
 }
 
 // How much there is of a replica.
@@ -133,10 +142,11 @@ fn overview_line<S: DotSet>(
     alloc: Global,
     replica: &Replica<S>,
     amounts: Amounts,
+    mark: Mark,
     of_file: &str,
 ) -> Result<String, Fault>
     ensures text { IfOk result (λ text. string_bytes text
-        ≡ overview_text replica.now.roster replica.now.own amounts of_file.now (mark_of replica.now.state)) }
+        ≡ overview_text replica.now.roster replica.now.own amounts of_file.now mark) }
     ensures memory { IfErr result (λ fault. fault ≡ Memory) }
 {
     let roster = replica.roster();
@@ -145,7 +155,6 @@ fn overview_line<S: DotSet>(
     let names = show_names(alloc, roster.names())?;
     let whose = format!(in alloc; "{{\"group\":{group},\"own\":{own},\"names\":{names}")?;
     let much = much_text(alloc, amounts)?;
-    let mark = replica.state().mark();
     Ok(format!(in alloc; "{whose}{much}{of_file},\"mark\":\"{mark}\"}}")?)
 }
 

@@ -1,4 +1,5 @@
 mod Amounts
+mod ConflictLines
 mod Examples
 mod Joined
 mod Merged

@@ -4,6 +4,7 @@ use Rattle.serde_json.specs.Written.{compact_text}
 use Rattle.rds_names.specs.declared.entry.Kind.TheVariants.{Reg}
 use Rattle.rds_state.specs.Value.{StateValue}
 use Rattle.rds_tree.specs.Document.{document}
+use Rattle.rds_tree.specs.Shown.{Shown}
 use Rattle.rds_tree.specs.View.{is_kind, view_of}
 use Rattle.rds_json.specs.Show.{scalars_data}
 use Rattle.rds_json.specs.Spelling.{path_data}
@@ -23,6 +24,10 @@ conflict_line standing =
 abbrev pub conflict_lines : List StandingValue → List (List ℕ)
 conflict_lines all = map conflict_line (filter is_conflict all)
 
--- the lines of what a state's document has at a path
+-- the lines of what is shown at a path
+abbrev pub conflicts_below : List (List ℕ) → Shown → List ℕ
+conflicts_below path shown = lines_text (conflict_lines (standings path shown))
+
+-- those of what a state's document has there
 abbrev pub conflicts_text : StateValue → List (List ℕ) → List ℕ
-conflicts_text state path = lines_text (conflict_lines (standings path (view_of (document state) path)))
+conflicts_text state path = conflicts_below path (view_of (document state) path)

@@ -3,7 +3,19 @@ ghost use Rattle.std.specs.Prelude.{◌≡◌, ◌++◌, ◌∷◌, [], false, m
 ghost use Rattle.std.specs.List.{flat_map};
 ghost use Rattle.rds_json.specs.Show.{scalar_data};
 ghost use Rattle.rds_json.specs.Spelling.{line_of_word, path_data};
-ghost use Rattle.rds_listing.specs.Dump.{amounts, count_line, counter_edits, counts_text, dump_text, edit_line, edits_text, standing_edits, sum_edits, value_edit};
+ghost use Rattle.rds_listing.specs.Dump.{
+  amounts,
+  count_line,
+  counter_edits,
+  counts_text,
+  dump_edits,
+  dump_text,
+  edit_line,
+  edits_text,
+  standing_edits,
+  sum_edits,
+  value_edit,
+};
 ghost use Rattle.rds_names.specs.declared.fault.Fault.TheVariants.{Memory};
 ghost use Rattle.rds_tree.specs.Shown.{shown_view};
 ghost use Rattle.rds_tree.specs.Shows.{counters_in};
@@ -31,10 +43,18 @@ pub fn dump<S: DotSet>(alloc: Global, state: &State<S>, path: &Path) -> Result<S
     ensures memory { IfErr result (λ fault. fault ≡ Memory) }
 {
     let shape = view(alloc, state, path)?;
-    let all = standings_of(alloc, path.keys(), &shape)?;
+    dump_shown(alloc, path, &shape)
+}
+
+/// The same of what a document shows at the path.
+pub fn dump_shown(alloc: Global, path: &Path, shape: &View) -> Result<String, Fault>
+    ensures text { IfOk result (λ text. string_bytes text ≡ edits_text (dump_edits path.now (shown_view shape.now))) }
+    ensures memory { IfErr result (λ fault. fault ≡ Memory) }
+{
+    let all = standings_of(alloc, path.keys(), shape)?;
     let mut text = String::new(alloc);
     push_standings(alloc, &mut text, all.as_slice())?;
-    push_counters(alloc, &mut text, &shape)?;
+    push_counters(alloc, &mut text, shape)?;
     Ok(text)
 }
 

@@ -19,7 +19,7 @@ mod telling;
 
 pub use bare::{Raw, Wanted, raw_of, raw_values};
 pub use certificates::evidence;
-pub use conflicting::conflicts;
-pub use dumping::dump;
+pub use conflicting::{conflicts, conflicts_shown};
+pub use dumping::{dump, dump_shown};
 pub use presence::stands;
 pub use telling::differences;

@@ -116,8 +116,8 @@ fn standing_under(
     })
 }
 
-// The keys above a key, and that key.
-fn path_below(alloc: Global, above: &[Key], key: &Key) -> Result<Vec<Key>, Fault>
+/// The keys above a key, and that key.
+pub fn path_below(alloc: Global, above: &[Key], key: &Key) -> Result<Vec<Key>, Fault>
     ensures ok { IfOk result (λ path. path.items ≡ above.now ++ key.now ∷ []) }
     ensures memory { IfErr result (λ fault. fault ≡ Memory) }
 {
@@ -140,8 +140,8 @@ fn copies(alloc: Global, values: &[Scalar]) -> Result<Vec<Scalar>, Fault>
     Ok(copies)
 }
 
-// The rows before the first that is past a key, and those from that one on.
-fn split_past<'a>(
+/// The rows before the first that is past a key, and those from that one on.
+pub fn split_past<'a>(
     rows: &'a [(Key, Scalars)],
     key: &Key,
 ) -> (&'a [(Key, Scalars)], &'a [(Key, Scalars)])

@@ -15,7 +15,7 @@ ghost use Rattle.serde_json.specs.Written.{compact_text};
 use crate::document::Document;
 use rds_json::{show, show_at};
 use rds_lines::{overview_json, place_of};
-use rds_listing::{conflicts, dump};
+use rds_listing::{conflicts_shown, dump_shown};
 use rds_names::{Fault, Key, Path};
 use rds_state::Mark;
 use rds_tree::View;
@@ -73,7 +73,7 @@ impl Document {
         ensures { MayTell result (told_at conflicts_text self.now.state path.now) }
     {
         let path = Path::new(self.alloc, path)?;
-        conflicts(self.alloc, self.index.replica().state(), &path)
+        conflicts_shown(self.alloc, &path, &self.index.view(&path)?)
     }
 
     /// The edits that make what the document has below a path, each as a line that `edit_line` takes.
@@ -81,7 +81,7 @@ impl Document {
         ensures { MayTell result (told_at dump_text self.now.state path.now) }
     {
         let path = Path::new(self.alloc, path)?;
-        dump(self.alloc, self.index.replica().state(), &path)
+        dump_shown(self.alloc, &path, &self.index.view(&path)?)
     }
 
     /// The mark by which replicas are compared at a glance: those that have the same updates have the same. It is kept
@@ -98,6 +98,6 @@ impl Document {
         ensures told { IfOk result (λ text. IsOverview self.now (string_bytes text)) }
         ensures memory { IfErr result (λ fault. fault ≡ Memory) }
     {
-        overview_json(self.alloc, self.index.replica())
+        overview_json(self.alloc, self.index.replica(), self.index.mark())
     }
 }
