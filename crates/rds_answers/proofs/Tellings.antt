@@ -47,8 +47,8 @@ use Rattle.rds_codec.specs.CertificateTexts.{IsCertificateOf, IsReplicaOf}
 use Rattle.rds_codec.specs.DigestTexts.{IsDigestOf}
 use Rattle.rds_bytes.specs.Values.{is_key_text, AreCountsOf, AreDotsOf, IsCountRowOf, IsLiveRow}
 use Rattle.rds_codec.specs.StateTexts.{IsStateOf}
-use Rattle.rds_session.specs.Checked.{certificate_of, is_later, least_state}
-use Rattle.rds_session.proofs.Checks.{kept_lives, kept_numbers}
+use Rattle.rds_answers.specs.Checked.{certificate_of, is_later, least_state}
+use Rattle.rds_answers.proofs.Checks.{kept_lives, kept_numbers}
 
 -- ---- the digest
 

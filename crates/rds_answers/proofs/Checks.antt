@@ -32,7 +32,7 @@ use Rattle.rds_delta.specs.declared.row.Row.TheVariants.{Live, Dead, Count}
 use Rattle.rds_delta.proofs.LeastLaws.{least_above}
 use Rattle.rds_delta.proofs.Grouping.{certificate_is, grouped_certificate}
 use Rattle.rds_codec.specs.AnswerTexts.{answer}
-use Rattle.rds_session.specs.Checked.{is_later, is_greater, is_all_above, same_run, same_which, same_row, certificate_of, least_state, passes, IsLeastDelta, IsOwnCertificate, PassesExactly}
+use Rattle.rds_answers.specs.Checked.{is_later, is_greater, is_all_above, same_run, same_which, same_row, certificate_of, least_state, passes, IsLeastDelta, IsOwnCertificate, PassesExactly}
 
 -- ---- equal rows
 
