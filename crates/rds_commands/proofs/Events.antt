@@ -16,8 +16,8 @@ use Rattle.rds_world.proofs.Meeting.{longer_length}
 use Rattle.rds_world.proofs.Open.{TakesAnswer, asked_within_kept, asks_now, leads_to, lent_now, opened, saved_open, taken_open, then_open}
 use Rattle.rds_world.proofs.Staying.{answers_stay}
 use Rattle.rds_files.specs.Files.{ReplacedValue}
-use Rattle.rds_files.specs.Settling.{Settles, IsJoined}
-use Rattle.rds_files.specs.declared.settling.Settled.TheVariants.{Taken}
+use Rattle.rds_meetings.specs.Settling.{Settles, IsJoined}
+use Rattle.rds_meetings.specs.declared.settling.Settled.TheVariants.{Taken}
 use Rattle.rds_commands.specs.Sessions.{LeavesFile, ReadingsAreAsks, SessionsAreAnswered}
 use Rattle.rds_commands.specs.Sessions.{SettlingsAreTakes, settling_events}
 

@@ -3,7 +3,7 @@ use Rattle.std.proofs.Common.{◌≡◌, ap, subst}
 use Rattle.rds_names.specs.Roster.{OneBegins, RosterValue}
 use Rattle.rds_state.specs.Mark.{mark_of}
 use Rattle.rds_questions.proofs.Told.{equal_states}
-use Rattle.rds_files.proofs.Takes.{same_self}
+use Rattle.rds_meetings.proofs.Takes.{same_self}
 use Rattle.rds_commands.specs.Sessions.{LevelForksAreTold}
 
 pub level_forks : LevelForksAreTold

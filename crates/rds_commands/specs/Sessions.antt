@@ -10,9 +10,9 @@ use Rattle.rds_world.specs.Replicas.{IsAnsweredIn, IsAskedIn, IsKeptIn, LeadsTo}
 use Rattle.rds_world.specs.World.{World, Happening, Of, AnswerLent, Accepted, run}
 use Rattle.rds_world.specs.declared.event.Event.TheVariants.{Ask, Crash, Save, Take}
 use Rattle.rds_files.specs.Files.{ReplacedValue}
-use Rattle.rds_files.specs.Forks.{AreForked}
-use Rattle.rds_files.specs.Settling.{Settles}
-use Rattle.rds_files.specs.declared.settling.Settled.TheVariants.{Taken}
+use Rattle.rds_meetings.specs.Forks.{AreForked}
+use Rattle.rds_meetings.specs.Settling.{Settles}
+use Rattle.rds_meetings.specs.declared.settling.Settled.TheVariants.{Taken}
 
 -- a file is read, and its replica asks; what it had kept then is what its session answers from
 abbrev pub reading_events : ReplicaValue → List Happening

@@ -35,9 +35,9 @@ use Rattle.rds_lines.specs.Sim.{IsSimOutput, MayBeSimulated}
 use Rattle.rds_lines.specs.declared.views.Layout.{Layout}
 use Rattle.rds_lines.specs.declared.views.Layout.TheVariants as layout
 use Rattle.rds_files.specs.Files.{is_beside}
-use Rattle.rds_files.specs.Pairing.{WritesPair}
-use Rattle.rds_files.specs.Piping.{Pipes}
-use Rattle.rds_files.specs.Syncing.{WritesServing, WritesSync}
+use Rattle.rds_meetings.specs.Pairing.{WritesPair}
+use Rattle.rds_meetings.specs.Piping.{Pipes}
+use Rattle.rds_meetings.specs.Syncing.{WritesServing, WritesSync}
 use Rattle.rds_commands.specs.Edits.{
   CompactsFile,
   EditsFile,

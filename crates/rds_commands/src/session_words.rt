@@ -24,8 +24,9 @@ use crate::notes::{note_beside, note_no_port, note_serve, note_sync, note_visit}
 use crate::offline::status_for;
 use crate::site::RunSite;
 use crate::visits::{is_site, write_visit};
-use rds_files::{Disk, LockFile, is_beside, pair_files, pipe_file, serve_file, sync_file};
+use rds_files::{Disk, LockFile, is_beside};
 use rds_keep::Counted;
+use rds_meetings::{pair_files, pipe_file, serve_file, sync_file};
 use rds_names::Fault;
 use rds_output::write_fault;
 use rds_session::{Side, Version};

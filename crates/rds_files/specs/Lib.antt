@@ -1,9 +1,2 @@
-pub mod Ends
 pub mod Files
-pub mod Forks
 pub mod Holders
-pub mod Pairing
-pub mod Piping
-pub mod Reports
-pub mod Settling
-pub mod Syncing

@@ -3,9 +3,10 @@ ghost use Rattle.std.specs.Prelude.{IfOk};
 ghost use Rattle.rds_session.specs.Received.{HasChecked, delivery_of};
 
 use crate::sessions::side_of;
-use rds_files::{CreatedFile, LockedFile, ReplacedFile, ReplicaFile, Settlement, settle};
+use rds_files::{CreatedFile, LockedFile, ReplacedFile, ReplicaFile};
 use rds_gaps::GapSet;
 use rds_keep::{Counted, Kept};
+use rds_meetings::{Settlement, settle};
 use rds_names::Fault;
 use rds_rows::words::{bytes_of, cut};
 use rds_session::{Exchanged, Side, exchange};

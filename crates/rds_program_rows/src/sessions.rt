@@ -9,6 +9,7 @@ mod ways;
 use exchanges::exchange_once;
 use named::{Named, repeated};
 use outcomes::Outcomes;
+use rds_answers::values_are_least;
 use rds_dots::DotSet;
 use rds_keep::{Counted, Kept, read_snapshot};
 use rds_names::Fault;
@@ -18,7 +19,6 @@ use rds_rows::words::first;
 use rds_session::{
     Input, Side, Version, a_course_is_by_messages, a_server_speaks_its_clients_version,
     a_step_of_a_session_has_one_result, limit_of_messages, streams_are_split_once, two_sessions,
-    values_are_least,
 };
 use showing::chunks_told;
 use std::alloc::Global;

@@ -20,9 +20,9 @@ use Rattle.rds_codec.specs.declared.formats.Format.TheVariants.{One, Two}
 use Rattle.rds_codec.specs.declared.hellos.Hello.{Hello}
 use Rattle.rds_codec.proofs.Longer.{digest_longer, state_longer}
 use Rattle.rds_codec.proofs.Whole.{text_again}
-use Rattle.rds_session.specs.Checked.{certificate_of, least_state}
-use Rattle.rds_session.proofs.Checks.{delta_is}
-use Rattle.rds_session.proofs.Tellings.{answer_is, digest_is}
+use Rattle.rds_answers.specs.Checked.{certificate_of, least_state}
+use Rattle.rds_answers.proofs.Checks.{delta_is}
+use Rattle.rds_answers.proofs.Tellings.{answer_is, digest_is}
 use Rattle.rds_questions.specs.Laws.{DeltasAreLeast, HaveOneResponse, IsAnswered, IsBrought, ReplicasAskWell}
 use Rattle.rds_questions.specs.Questions.{QuestionValue, askers_of}
 use Rattle.rds_questions.specs.Receiving.{MayTalk}

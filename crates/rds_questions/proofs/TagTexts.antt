@@ -10,7 +10,7 @@ use Rattle.rds_bytes.specs.Reading.{bytes_at, number_at, pair_at}
 use Rattle.rds_bytes.proofs.Format.{IsBytes, IsFormat, Takes, known_format, made_format, number64, pair_format}
 use Rattle.rds_codec.proofs.Whole.{IsReaderOf}
 use Rattle.rds_state.specs.Fits.{ReplicaValue}
-use Rattle.rds_session.proofs.MarkTexts.{mark_is_mark}
+use Rattle.rds_answers.proofs.MarkHalves.{mark_is_mark}
 use Rattle.rds_questions.specs.Hashed.{question_hash, told_text}
 use Rattle.rds_questions.specs.Questions.{question_of}
 use Rattle.rds_questions.specs.Tags.{IsTag, IsTagOf, tag_at, tag_by, tag_kind, tag_of, tag_text}

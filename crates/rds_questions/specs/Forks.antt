@@ -5,7 +5,7 @@ use Rattle.rds_state.specs.Coordinates.{AreCompatible}
 use Rattle.rds_state.specs.Fits.{ReplicaValue}
 use Rattle.rds_state.specs.Mark.{mark_of}
 use Rattle.rds_state.specs.Value.{coordinates}
-use Rattle.rds_session.specs.Hashes.{Collide}
+use Rattle.rds_answers.specs.Hashes.{Collide}
 use Rattle.rds_questions.specs.Hashed.{TellTheSame, told_text}
 use Rattle.rds_questions.specs.Questions.{question_kind, question_of}
 use Rattle.rds_questions.specs.Receiving.{ReceivedValue}

@@ -9,7 +9,7 @@ use Rattle.rds_state.specs.Coordinates.{AreCompatible}
 use Rattle.rds_state.specs.Fits.{ReplicaValue}
 use Rattle.rds_state.specs.Mark.{mark_of}
 use Rattle.rds_state.specs.Value.{StateValue, coordinates}
-use Rattle.rds_session.specs.Hashes.{Collide}
+use Rattle.rds_answers.specs.Hashes.{Collide}
 use Rattle.rds_questions.specs.Questions.{QuestionValue, question_kind, question_of}
 
 -- all of a question but who asks: the text of its roster, and the brief of its digest

@@ -16,12 +16,12 @@ use Rattle.rds_state.specs.declared.mark.Mark.{Mark}
 use Rattle.rds_session.specs.declared.version.Version.{Version}
 use Rattle.rds_codec.specs.declared.hellos.Hello.{Hello}
 use Rattle.rds_session.specs.Bodies.{hello_in, digest_in, answer_in}
-use Rattle.rds_session.specs.Checked.{passes}
+use Rattle.rds_answers.specs.Checked.{passes}
 use Rattle.rds_session.specs.declared.kinds.ByeCode.{ByeCode}
 use Rattle.rds_session.specs.declared.kinds.ByeCode.TheVariants as byes
 use Rattle.rds_session.specs.declared.kinds.MessageKind.{MessageKind}
 use Rattle.rds_session.specs.declared.kinds.MessageKind.TheVariants as kinds
-use Rattle.rds_session.specs.Hashes.{digest_hash, hash_in}
+use Rattle.rds_answers.specs.Hashes.{digest_hash, hash_in}
 use Rattle.rds_session.specs.Marked.{mark_in, same_mark, told_mark}
 use Rattle.rds_session.specs.Messages.{kind_of, bye_of}
 use Rattle.rds_session.specs.Wants.{heard_behind}

@@ -19,7 +19,7 @@ use Rattle.rds_codec.specs.declared.limits.TheConstants.{LIMIT}
 use Rattle.rds_session.specs.Bodies.{hello_in, digest_in, answer_in}
 use Rattle.rds_session.specs.Coming.{ComingValue}
 use Rattle.rds_session.specs.Contents.{ContentValue, OfHello, OfDigest, OfHash, OfDelta, OfBye, OfMark, body_read, code_read, expects_hash, expects_mark, hash_read, kind_read, message_read, read_as, version_read}
-use Rattle.rds_session.specs.Hashes.{hash_in}
+use Rattle.rds_answers.specs.Hashes.{hash_in}
 use Rattle.rds_session.specs.Judging.{is_done, version_with}
 use Rattle.rds_session.specs.Marked.{mark_in}
 use Rattle.rds_session.specs.Messages.{bye_of, kind_of, number_of}

@@ -7,7 +7,8 @@ use Rattle.rds_state.specs.Mark.{mark_of}
 use Rattle.rds_state.specs.Value.{coordinates}
 use Rattle.rds_life.specs.Life.{AreCompatible}
 use Rattle.rds_session.proofs.Joined.{both_hold}
-use Rattle.rds_session.proofs.MarkTexts.{mark_is_mark, same_decides}
+use Rattle.rds_answers.proofs.MarkHalves.{mark_is_mark}
+use Rattle.rds_session.proofs.MarkTexts.{same_decides}
 use Rattle.rds_session.proofs.Told.{AreAlike, ending}
 use Rattle.rds_session.specs.Judging.{Finishes, Forks}
 use Rattle.rds_session.specs.Marked.{same_mark}

@@ -19,8 +19,8 @@ use Rattle.rds_state.proofs.JoinLaws.{commutative, reflexive, same_coordinates, 
 use Rattle.rds_state.specs.Coordinates.{Coordinates, join}
 use Rattle.rds_state.specs.Fits.{ReplicaValue}
 use Rattle.rds_state.specs.Value.{StateValue, coordinates}
-use Rattle.rds_session.proofs.Checks.{least_coordinates}
-use Rattle.rds_session.specs.Checked.{least_state}
+use Rattle.rds_answers.proofs.Checks.{least_coordinates}
+use Rattle.rds_answers.specs.Checked.{least_state}
 use Rattle.rds_session.specs.Marked.{with_delta}
 use Rattle.rds_session.specs.Meeting.{HoldJoins, held_with}
 

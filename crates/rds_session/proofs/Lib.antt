@@ -1,6 +1,5 @@
 pub mod Accepting
 pub mod Began
-pub mod Checks
 pub mod Course
 pub mod Cutting
 pub mod Endings
@@ -21,7 +20,6 @@ pub mod Splits
 pub mod Splitting
 pub mod Spoken
 pub mod Talking
-pub mod Tellings
 pub mod Told
 pub mod Turns
 pub mod Verdicts

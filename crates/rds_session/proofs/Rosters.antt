@@ -10,7 +10,7 @@ use Rattle.rds_names.specs.Roster.{RosterValue, AreFirst, OneBegins}
 use Rattle.rds_state.specs.Fits.{ReplicaValue}
 use Rattle.rds_session.specs.Judging.{longer_than, one_begins, replicas_of}
 use Rattle.rds_session.specs.Received.{IsLongerIfThere}
-use Rattle.rds_session.proofs.Checks.{either, or_true}
+use Rattle.rds_answers.proofs.Checks.{either, or_true}
 
 -- names are the others' first ones exactly where the test says so
 first_decides : (ns ms : List (List ℕ)) → Decides (starts_with bytes_eq ms ns) (AreFirst ns ms)

@@ -13,8 +13,8 @@ use Rattle.rds_codec.specs.FormatTexts.{answer_text_in}
 use Rattle.rds_codec.specs.declared.formats.Format.{Format}
 use Rattle.rds_codec.specs.Writing.{Encodes}
 use Rattle.rds_codec.specs.declared.limits.TheConstants.{LIMIT}
-use Rattle.rds_session.specs.Checked.{certificate_of, least_state}
-use Rattle.rds_session.proofs.Checks.{delta_is}
+use Rattle.rds_answers.specs.Checked.{certificate_of, least_state}
+use Rattle.rds_answers.proofs.Checks.{delta_is}
 use Rattle.rds_session.specs.declared.chunks.TheConstants.{MESSAGE_LIMIT}
 use Rattle.rds_session.specs.Chunks.{message_in_chunks}
 use Rattle.rds_session.specs.Sending.{sending, then_sent, IsTextOrLost, SendsOne, SendsAll}

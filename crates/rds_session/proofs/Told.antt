@@ -37,28 +37,29 @@ use Rattle.rds_codec.proofs.InFormats.{answer_in_reader}
 use Rattle.rds_codec.proofs.Longer.{state_longer}
 use Rattle.rds_codec.proofs.Whole.{IsReaderOf}
 use Rattle.rds_session.specs.Bodies.{hello_in, digest_in, answer_in}
-use Rattle.rds_session.specs.Checked.{certificate_of, least_state}
+use Rattle.rds_answers.specs.Checked.{certificate_of, least_state}
 use Rattle.rds_session.specs.declared.version.Version.{Version}
 use Rattle.rds_session.specs.declared.version.Version.TheVariants.{One, Two, Three, Four, Five}
 use Rattle.rds_session.specs.Judging.{ForHello, ForDigest, ForWhole, ForDelta, ForBye, Said, Greets, Learns, Shares, Misses, Receives, Finishes, Forks, verdict, hash_judged, read_then, version_with, version_came, member_judged, delta_judged, mark_judged, longer_than}
 use Rattle.rds_session.specs.declared.chunks.TheConstants.{MESSAGE_LIMIT}
 use Rattle.rds_session.specs.declared.kinds.MessageKind.TheVariants as kinds
 use Rattle.rds_session.specs.declared.talk.Stop.TheVariants.{Refused}
-use Rattle.rds_session.specs.Hashes.{digest_hash, hash_in}
+use Rattle.rds_answers.specs.Hashes.{digest_hash, hash_in}
 use Rattle.rds_session.specs.Marked.{same_mark}
 use Rattle.rds_session.specs.Wants.{heard_behind, said_behind, wanted_by, wants_of}
 use Rattle.rds_codec.specs.declared.formats.Format.{Format}
 use Rattle.rds_session.specs.Versions.{as_hello, format_of, says_briefs, says_hashes, version_byte}
-use Rattle.rds_session.proofs.MarkTexts.{IsMark, mark_again}
+use Rattle.rds_answers.proofs.MarkHalves.{IsMark}
+use Rattle.rds_session.proofs.MarkTexts.{mark_again}
 use Rattle.rds_session.specs.Meeting.{HasRoom, IsItsLeast, last_mark}
 use Rattle.rds_session.specs.Messages.{hello_message, behind_message, digest_body, digest_message, digest_said, hash_message, delta_message, done_message, number_of}
 use Rattle.rds_session.specs.Received.{Delivery}
 use Rattle.rds_session.specs.declared.talk.Peer.{Peer}
 use Rattle.rds_session.specs.declared.talk.Side.{Side}
 use Rattle.rds_session.specs.declared.talk.Side.TheVariants.{Client, Server}
-use Rattle.rds_session.proofs.Checks.{least_coordinates, least_passes}
+use Rattle.rds_answers.proofs.Checks.{least_coordinates, least_passes}
 use Rattle.rds_session.proofs.Rosters.{among, both_within, group_is, one_begins_is}
-use Rattle.rds_session.proofs.Tellings.{digest_is, answer_is}
+use Rattle.rds_answers.proofs.Tellings.{digest_is, answer_is}
 use Rattle.rds_session.proofs.Wanting.{answer_same, wants_is}
 
 -- one hears what the other tells in a version

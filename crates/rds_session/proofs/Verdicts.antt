@@ -27,7 +27,7 @@ use Rattle.rds_keep.specs.Feeding.{AreBytes}
 use Rattle.rds_session.specs.Bodies.{hello_in, digest_in, answer_in}
 use Rattle.rds_session.specs.Contents.{ContentValue, OfHello, OfDigest, OfHash, OfDelta, OfBye, OfMark, IsRead, IsReadFor, body_read, bye_read, code_read, content_judged, expected_of, expects_hash, expects_mark, hash_read, hello_read, kind_read, message_read, plain_read, read_as, version_read}
 use Rattle.rds_session.specs.Judging.{Awaited, ForHello, ForDigest, ForWhole, ForDelta, ForBye, Said, Judges, StopsAs, StopsByNoDevice, body_came, bye_came, code_came, hash_came, hash_judged, hello_came, is_done, kind_came, plain_came, read_then, replicas_of, verdict, version_came, version_with, waits_for_hash, waits_for_mark}
-use Rattle.rds_session.specs.Hashes.{hash_in}
+use Rattle.rds_answers.specs.Hashes.{hash_in}
 use Rattle.rds_session.specs.Marked.{mark_in}
 use Rattle.rds_session.specs.Messages.{bye_of, kind_of}
 use Rattle.rds_session.specs.Versions.{as_hello, format_of, says_briefs}

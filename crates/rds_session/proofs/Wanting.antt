@@ -21,9 +21,9 @@ use Rattle.rds_delta.proofs.Digests.{live_inside, ranks_of_digest}
 use Rattle.rds_bytes.specs.Values.{AreDotsOf}
 use Rattle.rds_codec.specs.AnswerTexts.{answer}
 use Rattle.rds_codec.specs.DigestTexts.{IsDigestOf}
-use Rattle.rds_session.specs.Checked.{certificate_of, is_greater, is_later, least_state}
+use Rattle.rds_answers.specs.Checked.{certificate_of, is_greater, is_later, least_state}
 use Rattle.rds_session.specs.Wants.{dead_there, wanted_by, wants_of}
-use Rattle.rds_session.proofs.Checks.{kept_lives}
+use Rattle.rds_answers.proofs.Checks.{kept_lives}
 
 -- ---- one dot: whether it is seen and live here, and in the other
 

@@ -22,7 +22,7 @@ use Rattle.rds_session.specs.declared.talk.Stop.TheVariants.{Refused}
 use Rattle.rds_session.specs.Bodies.{hello_in, digest_in, answer_in}
 use Rattle.rds_session.specs.declared.version.Version.{Version}
 use Rattle.rds_session.specs.Judging.{Awaited, ForHello, ForDigest, ForWhole, ForDelta, ForBye, Said, Learns, bye_judged, delta_judged, hash_judged, is_done, mark_judged, member_judged, replicas_of, version_with}
-use Rattle.rds_session.specs.Hashes.{hash_in}
+use Rattle.rds_answers.specs.Hashes.{hash_in}
 use Rattle.rds_session.specs.Marked.{mark_in}
 use Rattle.rds_session.specs.Versions.{as_hello, format_of, says_hashes}
 use Rattle.rds_session.specs.Wants.{heard_behind}

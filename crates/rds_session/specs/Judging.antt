@@ -28,8 +28,8 @@ use Rattle.rds_codec.specs.declared.hellos.Hello.{Hello}
 use Rattle.rds_codec.specs.declared.limits.TheConstants.{LIMIT}
 use Rattle.rds_session.specs.declared.version.Version.{Version}
 use Rattle.rds_session.specs.Bodies.{hello_in, digest_in, answer_in}
-use Rattle.rds_session.specs.Checked.{passes}
-use Rattle.rds_session.specs.Hashes.{digest_hash, hash_in}
+use Rattle.rds_answers.specs.Checked.{passes}
+use Rattle.rds_answers.specs.Hashes.{digest_hash, hash_in}
 use Rattle.rds_session.specs.Marked.{mark_in, same_mark, told_mark}
 use Rattle.rds_session.specs.Messages.{kind_of, bye_of, hello_message, behind_message, digest_message, digest_said, delta_message, done_message, fault_of}
 use Rattle.rds_session.specs.Wants.{heard_behind}

@@ -2,14 +2,12 @@ pub mod Arriving
 pub mod Begun
 pub mod Bodies
 pub mod ByMessages
-pub mod Checked
 pub mod Chunks
 pub mod Code
 pub mod Coming
 pub mod Contents
 pub mod Exchange
 pub mod Expecting
-pub mod Hashes
 pub mod Judging
 pub mod Leaving
 pub mod Marked

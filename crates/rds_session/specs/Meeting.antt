@@ -21,9 +21,9 @@ use Rattle.rds_session.specs.declared.talk.Side.TheVariants.{Client, Server}
 use Rattle.rds_session.specs.declared.step.Ended.{Ended}
 use Rattle.rds_session.specs.declared.step.Ended.TheVariants.{Done, Failed}
 use Rattle.rds_session.specs.declared.version.Version.{Version}
-use Rattle.rds_session.specs.Checked.{least_state}
+use Rattle.rds_answers.specs.Checked.{least_state}
 use Rattle.rds_session.specs.Chunks.{message_in_chunks}
-use Rattle.rds_session.specs.Hashes.{Collide, digest_hash}
+use Rattle.rds_answers.specs.Hashes.{Collide, digest_hash}
 use Rattle.rds_session.specs.Judging.{longer_than}
 use Rattle.rds_session.specs.Marked.{told_mark, with_delta}
 use Rattle.rds_session.specs.Messages.{hello_message, behind_message, digest_message, digest_said, delta_message, done_message}

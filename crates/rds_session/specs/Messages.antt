@@ -17,8 +17,8 @@ use Rattle.rds_session.specs.declared.kinds.ByeCode.TheVariants as byes
 use Rattle.rds_session.specs.declared.kinds.MessageKind.{MessageKind}
 use Rattle.rds_session.specs.declared.kinds.MessageKind.TheVariants as kinds
 use Rattle.rds_session.specs.declared.version.Version.{Version}
-use Rattle.rds_session.specs.Checked.{least_state, certificate_of}
-use Rattle.rds_session.specs.Hashes.{digest_hash}
+use Rattle.rds_answers.specs.Checked.{least_state, certificate_of}
+use Rattle.rds_answers.specs.Hashes.{digest_hash}
 use Rattle.rds_session.specs.Marked.{mark_bytes}
 use Rattle.rds_session.specs.Versions.{says_briefs, version_byte}
 use Rattle.rds_session.specs.Wants.{said_behind}

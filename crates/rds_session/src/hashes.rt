@@ -5,7 +5,7 @@ ghost use Rattle.rds_codec.specs.DigestTexts.{digest_text};
 ghost use Rattle.rds_codec.specs.Exchanged.{IsLost};
 ghost use Rattle.rds_codec.specs.declared.limits.TheConstants.{LIMIT};
 ghost use Rattle.rds_delta.specs.Digested.{digest_of};
-ghost use Rattle.rds_session.specs.Hashes.{digest_hash, hash_in};
+ghost use Rattle.rds_answers.specs.Hashes.{digest_hash, hash_in};
 
 use rds_codec::ask;
 use rds_dots::DotSet;

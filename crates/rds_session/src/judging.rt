@@ -23,7 +23,7 @@ ghost use Rattle.rds_session.specs.Judging.{
 };
 ghost use Rattle.rds_session.specs.Versions.{format_of};
 ghost use Rattle.rds_session.specs.Wants.{heard_behind};
-ghost use Rattle.rds_session.specs.Checked.{passes};
+ghost use Rattle.rds_answers.specs.Checked.{passes};
 ghost use Rattle.rds_session.specs.Received.{Brings, KnowsPeer, IsLongerIfThere};
 ghost use Rattle.rds_delta.specs.Claims.{IsCertificate};
 ghost use Rattle.rds_delta.specs.Least.{IsAbove};

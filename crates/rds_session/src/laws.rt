@@ -1,7 +1,6 @@
 //! Laws of streams and sessions.
 ghost use Rattle.std.specs.Prelude.{◌≡◌};
 ghost use Rattle.rds_session.specs.ByMessages.{IsByMessages, IsQuiet};
-ghost use Rattle.rds_session.specs.Checked.{IsLeastDelta, IsOwnCertificate, PassesExactly};
 ghost use Rattle.rds_session.specs.OneResult.{HasOneResult};
 ghost use Rattle.rds_session.specs.Meeting.{BothEnd, BothTellForks, HoldJoins, KeepsAtEnd, ReceiveDeltas, ServesEach};
 ghost use Rattle.rds_session.specs.Stream.{AreSplit, AreSplitOnce};
@@ -56,14 +55,6 @@ pub fn a_server_speaks_its_clients_version()
 /// same new standing, and the same bytes sent. The function does nothing: its contract is this law.
 pub fn a_step_of_a_session_has_one_result()
     ensures { HasOneResult }
-{}
-
-/// What a session sends and judges as values is what the laws of deltas speak of: the least delta, its certificate, and
-/// what passes. The function does nothing: its contract is these laws.
-pub fn values_are_least()
-    ensures least { IsLeastDelta }
-    ensures certificate { IsOwnCertificate }
-    ensures passes { PassesExactly }
 {}
 
 /// The greatest length of a message, 256 MiB, without the lengths of its chunks. The function does nothing: its

@@ -25,7 +25,6 @@ pub use exchanging::{Exchanged, exchange};
 pub use laws::{
     a_course_is_by_messages, a_server_speaks_its_clients_version,
     a_step_of_a_session_has_one_result, limit_of_messages, streams_are_split_once, two_sessions,
-    values_are_least,
 };
 pub use session::Session;
 pub use step::{Ended, Input, Output};

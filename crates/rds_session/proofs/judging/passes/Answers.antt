@@ -3,8 +3,8 @@ use Rattle.rds_delta.specs.Digested.{DigestValue, digest_of}
 use Rattle.rds_delta.specs.Claims.{IsCertificate}
 use Rattle.rds_delta.specs.Ranks.{Ranks, ranks}
 use Rattle.rds_state.specs.Value.{StateValue, coordinates}
-use Rattle.rds_session.specs.Checked.{passes}
-use Rattle.rds_session.proofs.Checks.{passes_are}
+use Rattle.rds_answers.specs.Checked.{passes}
+use Rattle.rds_answers.proofs.Checks.{passes_are}
 use Rattle.rds_session.proofs.judging.passes.Goals as goal
 
 pub returns-clause-ok : goal.returns-clause-ok

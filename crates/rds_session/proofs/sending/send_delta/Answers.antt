@@ -2,7 +2,7 @@ use Rattle.std.proofs.Common.{rules, ◌≡◌, ◌∷◌, MatchResult, Ok, Err,
 use Rattle.rds_state.specs.Value.{StateValue}
 use Rattle.rds_codec.specs.AnswerTexts.{answer}
 use Rattle.rds_codec.specs.FormatTexts.{answer_text_in}
-use Rattle.rds_session.specs.Checked.{certificate_of, least_state}
+use Rattle.rds_answers.specs.Checked.{certificate_of, least_state}
 use Rattle.rds_session.specs.Sending.{SendsOne}
 use Rattle.rds_session.proofs.Sendings.{answered}
 use Rattle.rds_session.proofs.sending.send_delta.Goals as goal

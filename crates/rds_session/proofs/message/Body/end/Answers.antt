@@ -3,7 +3,7 @@ use Rattle.rds_briefs.specs.ReadBriefs.{brief_at}
 use Rattle.rds_codec.specs.Decoding.{ReadsAll}
 use Rattle.std.proofs.lemmas.Result.{err_from_is_err_and}
 use Rattle.rds_session.proofs.Began.{greeting_said, parting_said, bye_said, mark_said, hash_said, brief_said, fails_so, refused_said, hello_said, digest_said, delta_said}
-use Rattle.rds_session.specs.Hashes.{hash_in}
+use Rattle.rds_answers.specs.Hashes.{hash_in}
 use Rattle.rds_session.specs.Marked.{mark_in}
 use Rattle.rds_session.proofs.message.Body.end.Goals as goal
 
