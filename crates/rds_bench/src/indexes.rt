@@ -99,7 +99,7 @@ fn time_steps(
 }
 
 /// Edits the index by each command.
-pub fn edit_each(index: &mut Index<GapSet>, commands: &[Command]) -> Result<(), Fault> {
+fn edit_each(index: &mut Index<GapSet>, commands: &[Command]) -> Result<(), Fault> {
     for command in commands {
         index.edit_by(command)?;
     }
