@@ -378,8 +378,9 @@ def judge_tags(node):
 
 
 def judge_matches(node):
-    """Edits and growths that are wanted only where the document is as it was seen: 412 where it has another tag."""
+    """Edits and growths that are wanted only where the document is as it was seen, or isn't: else 412."""
     noted, edit = Noted(), b'["inc","matched",1]\n'
+    unmet = '412 json {"status":412,"text":"the document\'s tag doesn\'t meet the condition"}'
     mark = lambda: node.status()["mark"]
     with node.link() as link:
         asked = lambda target, body, *lines: link.answer(node.text("POST", target, body, *lines))
@@ -388,7 +389,7 @@ def judge_matches(node):
             for target, body in ("/edits", edit), ("/edits", b"oops"), ("/grow", b"matched"):
                 answer = asked(target, body, f"If-Match: {shown}")
                 with noted:
-                    judge(f"{target} if {shown}", answer, '412 json {"status":412,"text":"the document has another tag"}')
+                    judge(f"{target} if {shown}", answer, unmet)
                     want(f'"{mark()}"' == tag, f"after {target} if {shown} the document is another")
         for values in ["NOW"], ["*"], [f"{old} , NOW"], [old, "NOW"], ["NOW,"]:
             now = f'"{mark()}"'
@@ -397,6 +398,14 @@ def judge_matches(node):
             with noted:
                 judge(f"/grow with {lines}", grown, '400 json {"fault":6,"name":"BadRoster","text":".."}')
                 judge(f"/edits with {lines}", edited, '200 x-ndjson {"dot":null,"killed":0}|')
+        for shown in "*", "NOW", "W/NOW", f"{old}, NOW", f"NOW,{old}":
+            lines = "If-None-Match: " + shown.replace("NOW", f'"{mark()}"'), "If-Match: *"
+            for answer in asked("/edits", edit, lines[0]), asked("/grow", b"a", lines[0]), asked("/edits", edit, *lines):
+                with noted:
+                    judge(f"with {lines}", answer, unmet)
+        for shown in old, f"W/{old}", "NOW"[1:], "":
+            with noted:
+                judge(f"if not {shown}", asked("/edits", edit, f"If-None-Match: {shown}"), '200 x-ndjson {"dot":null,"killed":0}|')
         for method, target in ("GET", "/doc"), ("POST", "/answer"):
             due = link.answer(node.text(method, target, b"oops" if method == "POST" else None)).status
             answer = link.answer(node.text(method, target, b"oops" if method == "POST" else None, f"If-Match: {old}"))

@@ -71,7 +71,7 @@ is_conditional Answer = false
 is_conditional Pull = false
 is_conditional Login = false
 
--- the request names tags, and the document has none of them
+-- the request names tags that the document has to have, or not, and it doesn't go with them
 abbrev pub is_unmet : Post → Entries FieldValue → StateValue → Bool
 is_unmet post headers state = is_conditional post && not (is_met headers (state_tag state))
 

@@ -67,9 +67,9 @@ IsUnknown response = TellsWords 404 (codes "no such resource") response
 abbrev pub IsUnknownTag : Response → Type 0
 IsUnknownTag response = TellsWords 412 (codes "the tag is of no question that is known") response
 
--- the document has none of the tags that a request names
+-- the document's tag isn't one for which the request is meant
 abbrev pub IsUnmet : Response → Type 0
-IsUnmet response = TellsWords 412 (codes "the document has another tag") response
+IsUnmet response = TellsWords 412 (codes "the document's tag doesn't meet the condition") response
 
 -- the methods of a resource
 abbrev pub methods_of : Resource → List ℕ

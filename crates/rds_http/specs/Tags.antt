@@ -1,5 +1,5 @@
 -- Entity tags (RFC 9110), and what conditions name them.
-use Rattle.std.specs.Prelude.{◌≡◌, ℕ, ◌-◌, ◌^◌, ◌<◌, Bool, ◌||◌, ◌==◌, bytes_eq, codes, List, ◌++◌, length, take, drop, is_none}
+use Rattle.std.specs.Prelude.{◌≡◌, ℕ, ◌-◌, ◌^◌, ◌<◌, Bool, ◌&&◌, ◌||◌, not, ◌==◌, bytes_eq, codes, List, ◌++◌, length, take, drop, is_none}
 use Rattle.std.specs.Char.{is_ascii_whitespace}
 use Rattle.std.specs.Int.{to_be_bytes, w64}
 use Rattle.std.specs.List.{list_any, prefix_len, slice_split, suffix_len}
@@ -100,6 +100,10 @@ abbrev pub is_matched_by : List ℕ → List ℕ → Bool
 is_matched_by tag value = bytes_eq value (codes "*") || has_strong_tag tag value
 
 -- the condition of a request that changes only what has this tag: there is none, or it names the tag
-abbrev pub is_met : Entries FieldValue → List ℕ → Bool
-is_met headers tag =
+abbrev pub is_matched : Entries FieldValue → List ℕ → Bool
+is_matched headers tag =
     is_none (get headers (codes "if-match")) || list_any (is_matched_by tag) (values_in headers (codes "if-match"))
+
+-- that, and the one of a request that changes only what doesn't have it
+abbrev pub is_met : Entries FieldValue → List ℕ → Bool
+is_met headers tag = is_matched headers tag && not (is_known headers tag)

@@ -1,10 +1,10 @@
 //! Requests for what changed, and for changes of what did not.
 ghost use Rattle.std.specs.Prelude.{◌≡◌, IfOk, codes, string_bytes};
-ghost use Rattle.std.specs.List.{list_any};
 ghost use Rattle.rds_http.specs.Tags.{
   has_strong_tag,
   has_tag,
   is_known,
+  is_matched,
   is_matched_by,
   is_met,
   is_named_by,
@@ -55,7 +55,8 @@ pub fn seen_of(
 }
 
 /// Whether a request with these header fields may change a document as it is (RFC 9110, 2022): it has no `If-Match` field,
-/// or one that names the document's tag, and not as a weak one, or is `*`.
+/// or one that names the document's tag, and not as a weak one, or is `*`; and no `If-None-Match` field of it names the
+/// tag, weak or not, or is `*`.
 pub fn is_met(
     alloc: Global,
     document: &Document,
@@ -63,17 +64,18 @@ pub fn is_met(
 ) -> Result<bool, AllocError>
     ensures { IfOk result (λ met. met ≡ is_met headers.now (state_tag document.now.state)) }
 {
-    if headers.get(IF_MATCH).is_none() {
-        return Ok(true);
-    }
     let tag = document_tag(alloc, document)?;
-    Ok(is_matched(headers, tag.as_bytes()))
+    let tag = tag.as_bytes();
+    Ok(is_matched(headers, tag) && !is_known(headers, tag))
 }
 
-/// Whether an `If-Match` field names the tag, or is `*`.
+/// Whether there is no `If-Match` field, or one names the tag, or is `*`.
 fn is_matched(headers: &HeaderMap<HeaderValue>, tag: &[u8]) -> bool
-    ensures { result ≡ list_any (is_matched_by tag.now) (values_in headers.now (codes "if-match")) }
+    ensures { result ≡ is_matched headers.now tag.now }
 {
+    if headers.get(IF_MATCH).is_none() {
+        return true;
+    }
     for value in headers.get_all(IF_MATCH) {
         if is_matched_by(tag, value.as_bytes()) {
             return true;

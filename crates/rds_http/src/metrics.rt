@@ -124,7 +124,7 @@ impl Metrics {
             clients,
             listeners,
             peers,
-            standings: _,
+            standings,
         } = self;
         let mut text = String::new(alloc);
         push_line(&mut text, "rds_edits_total", "counter", *edits)?;
@@ -136,6 +136,9 @@ impl Metrics {
         push_line(&mut text, "rds_listeners", "gauge", *listeners as u64)?;
         push_line(&mut text, "rds_live_entries", "gauge", live as u64)?;
         push_peers(&mut text, *peers)?;
+        if let Some(standings) = standings {
+            push_standings(&mut text, standings)?;
+        }
         Ok(text)
     }
 
@@ -196,6 +199,28 @@ fn push_peers(text: &mut String, peers: PeerCounts) -> Result<(), AllocError> {
     push_line(text, "rds_peer_exchanges_total", "counter", exchanges)?;
     push_line(text, "rds_caller_forks_total", "counter", forks)?;
     push_line(text, "rds_behind", "gauge", u64::from(is_behind))
+}
+
+/// Adds the lines of each of the other nodes, whose names have no quotes: whether it was met when it was called last, and
+/// how long ago an exchange with it went through.
+fn push_standings(text: &mut String, standings: &[PeerStanding]) -> Result<(), AllocError> {
+    writeln!(text, "# TYPE rds_peer_met gauge")?;
+    for standing in standings {
+        let name = standing.name.as_str();
+        let is_met = u8::from(standing.is_met);
+        writeln!(text, "rds_peer_met{{peer=\"{name}\"}} {is_met}")?;
+    }
+    writeln!(text, "# TYPE rds_peer_exchange_age_seconds gauge")?;
+    for standing in standings {
+        if let Some(seconds) = standing.ago {
+            let name = standing.name.as_str();
+            writeln!(
+                text,
+                "rds_peer_exchange_age_seconds{{peer=\"{name}\"}} {seconds}"
+            )?;
+        }
+    }
+    Ok(())
 }
 
 /// Adds the lines of one number: its type, and what it is.

@@ -63,12 +63,16 @@ pub fn refuse_tag(alloc: Global, response: &mut Response) -> Result<(), AllocErr
     refuse_condition(alloc, "the tag is of no question that is known", response)
 }
 
-/// Answers that the document has none of the tags that a request names.
+/// Answers that the document's tag isn't one for which the request is meant.
 pub fn refuse_unmet(alloc: Global, response: &mut Response) -> Result<(), AllocError>
     requires { IsBlank response.old }
     ensures { OnOk result (IsUnmet response.new) }
 {
-    refuse_condition(alloc, "the document has another tag", response)
+    refuse_condition(
+        alloc,
+        "the document's tag doesn't meet the condition",
+        response,
+    )
 }
 
 /// Answers by words that a request was made of something else than what is here.

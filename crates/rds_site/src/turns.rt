@@ -93,8 +93,9 @@ where
         Ok(())
     }
 
-    // Keeps what changed, and sends what is due. Answers when it was kept. Many connections may have taken all other
-    // descriptors, so those in reserve are let go for it.
+    // Keeps what changed, and sends what is due. Answers when it was kept: from then on clients and peers have their time
+    // to take what is sent, however long the turn took. Many connections may have taken all other descriptors, so those
+    // in reserve are let go for it.
     fn send(&mut self, rt: &H) -> Result<Instant, Fault>
     where
         H: Net,
@@ -105,9 +106,8 @@ where
         let committed = commit(rt, &mut self.logged.site)?;
         self.reserve.fill(rt);
         let kept = Instant::now(rt).unwrap_or(self.now);
-        tell(&committed, &mut self.clients, self.now);
-        self.peers
-            .send(rt, &committed, self.door.registry(), self.now);
+        tell(&committed, &mut self.clients, kept);
+        self.peers.send(rt, &committed, self.door.registry(), kept);
         Ok(kept)
     }
 
