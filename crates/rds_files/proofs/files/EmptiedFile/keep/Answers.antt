@@ -1,4 +1,4 @@
-use Rattle.rds_meetings.proofs.Growing.{unchanged}
+use Rattle.rds_files.proofs.Unchanged.{unchanged}
 use Rattle.rds_files.proofs.files.EmptiedFile.keep.Goals as goal
 
 pub unchanged-requires : goal.unchanged-requires

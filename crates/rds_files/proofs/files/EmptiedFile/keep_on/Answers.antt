@@ -1,5 +1,5 @@
 use Rattle.std.proofs.Common.{◌≡◌}
-use Rattle.rds_meetings.proofs.Growing.{unchanged}
+use Rattle.rds_files.proofs.Unchanged.{unchanged}
 use Rattle.rds_files.proofs.files.EmptiedFile.keep_on.Goals as goal
 
 pub returns-then-is_nothing-clause-kept : goal.returns-then-is_nothing-clause-kept
