@@ -23,6 +23,7 @@ pub enum Came {
 }
 
 /// Keys that mask what goes to a node, each from the system.
+#[derive(Drop)]
 pub struct Keys<'a, H> {
     rt: &'a H,
     error: Option<io::Error>,
@@ -36,7 +37,8 @@ impl<'a, H> Keys<'a, H> {
 
     /// Why the last call failed that the system has no key for, where one did.
     pub fn error(self) -> Option<io::Error> {
-        self.error
+        let Keys { rt: _, error } = self;
+        error
     }
 }
 
