@@ -25,11 +25,13 @@ A replica may live in a file, which `rds_node` reads and writes too. It is locke
     [3]
 
 `Replica.sync` meets a node that runs (`rds_node run`), over the network: each of the two takes what it lacks.
-`Replica.join` makes a new replica of a node's group, by a name that the node puts into its roster.
+`Replica.join` makes a new replica of a node's group, by a name that the node puts into its roster. `follow` gives the
+changes of a node as they come.
 
 The premise: a replica is edited at one place, and what it has sent is never taken back. So edit no copy of a file
 beside the original, and open no snapshot twice for editing.
 """
+from ._changes import Change, follow
 from ._faults import (
     Bad,
     BadCertificate,
@@ -80,6 +82,7 @@ __all__ = [
     "BadText",
     "Beside",
     "Busy",
+    "Change",
     "Closed",
     "Conflict",
     "CounterFull",
@@ -109,4 +112,5 @@ __all__ = [
     "WrongGroup",
     "WrongRoster",
     "WrongVersion",
+    "follow",
 ]

@@ -1,22 +1,24 @@
 """Nodes that run (`rds_node run`), and what is asked of them: docs/FORMATS.md, "A meeting of two nodes"."""
 from __future__ import annotations
 
+import base64
 import errno
 import hashlib
 import json
 import math
+import os
 import re
 import socket
 import time
 from contextlib import contextmanager
 from http.client import HTTPConnection, HTTPException, HTTPResponse, IncompleteRead, RemoteDisconnected
-from typing import Any, Dict, Iterator, NamedTuple, Optional, Tuple
+from typing import Any, BinaryIO, Dict, Iterator, NamedTuple, Optional, Tuple
 
 from ._faults import RdsError, fault
 from ._library import LAST_FAULT
 
 _TOO_LONG, _OUT_OF_TURN, _PEER_ENDED = 15, 22, 23
-_DONE, _NOT_MODIFIED = 200, 304
+_SWITCHED, _DONE, _NOT_MODIFIED = 101, 200, 304
 # What is said of a refusal without words.
 _REFUSALS = {401: "a token is due", 403: "a token may be due"}
 
@@ -33,6 +35,8 @@ _URL = re.compile(r"http://((?:\[([0-9A-Fa-f:.]+)\]|([A-Za-z0-9._-]+))(?::([0-9]
 _TOKEN = re.compile(r"[A-Za-z0-9._~-]{16,128}")
 _TAG = re.compile(r'"([0-9a-f]{64})-([0-9a-f]{32})"')
 _NUMBER = re.compile(r"[0-9]{1,3}")
+# What the key of a handshake is joined with (RFC 6455).
+_JOINED = b"258EAFA5-E914-47DA-95CA-C5AB0DC85B11"
 
 
 class Synced(NamedTuple):
@@ -139,6 +143,10 @@ class _Link(socket.socket):
         self._patience = patience
         self._room = 0
 
+    def renew(self, timeout: float) -> None:
+        """What follows may take as long, and have as many bytes, as if nothing had come before."""
+        self._patience, self._room = _Patience(timeout), _LONGEST + _AROUND
+
     def sendall(self, data: Any, flags: int = 0) -> None:
         self._room = _LONGEST + _AROUND
         left = memoryview(data)
@@ -225,6 +233,21 @@ class Node:
         """Asks for the snapshot of the node's document."""
         return self._call("GET", "/snapshot", {})[1]
 
+    def listen(self) -> Tuple[_Link, BinaryIO]:
+        """Has the connection handed over, for what is told of changes: it, and what comes over it (RFC 6455)."""
+        key = base64.b64encode(os.urandom(16))
+        due = base64.b64encode(hashlib.sha1(key + _JOINED).digest()).decode()
+        fields = {"Connection": "Upgrade", "Upgrade": "websocket", "Sec-WebSocket-Version": "13"}
+        with _heard("GET /live"):
+            self._connection.connect()
+            response = self._exchange("GET", "/live", {**fields, "Sec-WebSocket-Key": key.decode()}, ())
+            if response.status != _SWITCHED:
+                raise _refusal("GET /live", response)
+        if response.getheader("Sec-WebSocket-Accept") != due or response.getheader("Sec-WebSocket-Extensions"):
+            raise fault(_OUT_OF_TURN, "OutOfTurn: the answer to GET /live is none of a node")
+        assert isinstance(self._connection.sock, _Link)
+        return self._connection.sock, response.fp
+
     def _call(self, method: str, target: str, fields: Dict[str, str], *pieces: bytes) -> Tuple[HTTPResponse, bytes]:
         """The response to a request, and its body. A connection that rested may be ended by then: each request may be
         made twice, since one that is repeated changes nothing. A name isn't told on a connection that rested."""
@@ -242,20 +265,12 @@ class Node:
     ) -> Tuple[HTTPResponse, bytes]:
         if self._connection.sock is None:
             self._connection.connect()
-        try:
-            # Closed at the end, since it may hold the connection.
-            with self._exchange(method, target, fields, pieces) as response:
-                known = (_DONE, _NOT_MODIFIED) if "If-None-Match" in fields else (_DONE,)
-                if response.status not in known:
-                    raise _refusal(f"{method} {target}", response)
-                return response, _body_of(response)
-        except (IncompleteRead, RemoteDisconnected):
-            raise ConnectionResetError(errno.ECONNRESET, "the connection ended before an answer was whole") from None
-        except (RdsError, ConnectionError):
-            raise
-        except (HTTPException, ValueError) as error:
-            words = f"OutOfTurn: the answer to {method} {target} is none of HTTP/1.1: {error!r}"
-            raise fault(_OUT_OF_TURN, words) from None
+        # Closed at the end, since it may hold the connection.
+        with _heard(f"{method} {target}"), self._exchange(method, target, fields, pieces) as response:
+            known = (_DONE, _NOT_MODIFIED) if "If-None-Match" in fields else (_DONE,)
+            if response.status not in known:
+                raise _refusal(f"{method} {target}", response)
+            return response, _body_of(response)
 
     def _exchange(self, method: str, target: str, fields: Dict[str, str], pieces: Tuple[bytes, ...]) -> HTTPResponse:
         """Sends a request, and reads the head of the response. A node that takes no more of it may still respond."""
@@ -294,6 +309,19 @@ def met(url: str, token: Optional[str], timeout: Optional[float]) -> Iterator[No
         raise
     finally:
         node.close()
+
+
+@contextmanager
+def _heard(request: str) -> Iterator[None]:
+    """What is wrong with the answer to a request is a fault, or a connection that ended."""
+    try:
+        yield
+    except (IncompleteRead, RemoteDisconnected):
+        raise ConnectionResetError(errno.ECONNRESET, "the connection ended before an answer was whole") from None
+    except (RdsError, ConnectionError):
+        raise
+    except (HTTPException, ValueError) as error:
+        raise fault(_OUT_OF_TURN, f"OutOfTurn: the answer to {request} is none of HTTP/1.1: {error!r}") from None
 
 
 def _too_long() -> RdsError:

@@ -24,6 +24,8 @@ use Rattle.clap.specs.Words.{IsAmong, Kinds, Text}
 use Rattle.clap.specs.declared.error.kind.ErrorKind.{ErrorKind}
 use Rattle.rds_names.specs.declared.fault.Fault.{Fault}
 use Rattle.rds_names.specs.declared.fault.Fault.TheVariants.{Device, Memory, Usage}
+use Rattle.rds_names.specs.Gives.{Refuses}
+use Rattle.rds_names.specs.Path.{path_of}
 use Rattle.rds_keep.specs.Parts.{AppendsFront, ConsumesAtMost, Grows}
 use Rattle.rds_lines.specs.Ahead.{most_given}
 use Rattle.rds_lines.specs.Answering.{WritesAnswers, WritesCut, WritesFront}
@@ -82,6 +84,7 @@ use Rattle.rds_words.specs.declared.tasks.GrowWords.{GrowWords}
 use Rattle.rds_words.specs.declared.tasks.InitWords.{InitWords}
 use Rattle.rds_words.specs.declared.tasks.ServeWords.{ServeWords}
 use Rattle.rds_words.specs.declared.tasks.SyncWords.{SyncWords}
+use Rattle.rds_words.specs.declared.tasks.WatchWords.{WatchWords}
 use Rattle.rds_words.specs.declared.tasks.Task.{Task}
 use Rattle.rds_words.specs.declared.tasks.Task.TheVariants.{
   Join,
@@ -112,6 +115,7 @@ use Rattle.rds_words.specs.declared.tasks.Task.TheVariants.{
   Check,
   Conflicts,
   Diff,
+  Watch,
 }
 
 -- the answers to the lines of the input were written, and nothing else; or there was no memory to read the words
@@ -232,6 +236,18 @@ WritesPairing first second before after status =
 abbrev pub WritesSite : Option (List ℕ) → Option (List ℕ) → ℕ → Type 0
 WritesSite before after status = (fault : Fault) × Writes (Err fault) before after status
 
+-- why a site isn't followed any more: none is named, or the path is none, and else whatever the site answers
+abbrev pub EndsWatch : WatchWords → Fault → Type 0
+EndsWatch words fault =
+    ((is_site words.node.now ≡ false) × (fault ≡ Usage))
+    ⊎ ((is_site words.node.now ≡ true)
+    × (Refuses fault (path_of words.path.now) ⊎ IsOk (path_of words.path.now)))
+
+-- that was written
+abbrev pub WritesWatch : WatchWords → Option (List ℕ) → Option (List ℕ) → ℕ → Type 0
+WritesWatch words before after status =
+    (fault : Fault) × EndsWatch words fault × Writes (Err fault) before after status
+
 -- what is written for a task that is done here, with what became of the input; of `join` and `sim` it is said apart
 abbrev pub WritesHere : Task → Stream → Option (List ℕ) → Option (List ℕ) → ℕ → Type 0
 WritesHere Join reading before after status = Unit {0}
@@ -266,6 +282,7 @@ WritesHere (Check question answer) reading before after status =
 WritesHere (Conflicts file path) reading before after status =
     WritesList conflicts_text 3 file.now path.now before after status
 WritesHere (Diff file other) reading before after status = WritesDiff file.now other.now before after status
+WritesHere (Watch words) reading before after status = WritesWatch words before after status
 
 -- the same of any task: one that names a site in place of a file is done there
 abbrev pub WritesTask : Task → Stream → Option (List ℕ) → Option (List ℕ) → ℕ → Type 0

@@ -1,6 +1,6 @@
 //! The program's commands: words in, what is written and the exit status out. Read from above: `program`, `telling`,
 //! `outcome`, `file_commands`, `batch`, `looking`, `listing`, `offline`, `session_words`, `visits`, `responses`, `calls`,
-//! `site`, `unparsed` and `laws`. What people are told beside it is in `notes`, `letter_notes`, `tips` and `causes`.
+//! `watching`, `site`, `unparsed` and `laws`. What people are told beside it is in `notes`, `letter_notes`, `tips` and `causes`.
 #![tactic(auto)]
 
 mod batch;
@@ -22,6 +22,7 @@ mod telling;
 mod tips;
 mod unparsed;
 mod visits;
+mod watching;
 
 pub use laws::{
     copies_are_events, edits_are_events, letters_are_events, level_forks_are_told,

@@ -338,6 +338,11 @@ fn note_timeout<H: Eprint>(rt: &H, path: &str, timeout: &str) {
     }
 }
 
+/// Tells that a node's address is to stand where another text does.
+pub fn note_no_site<H: Eprint>(rt: &H, text: &str) {
+    let _ = eprintln!(rt; "'{text}' is no node, as http://127.0.0.1:7780 is");
+}
+
 /// Tells that a path is that of a file beside another, where it is.
 pub fn note_beside<H: Eprint>(rt: &H, path: &str) {
     if is_beside(path) {

@@ -23,6 +23,7 @@ use crate::telling::{
 };
 use crate::tips::command_in;
 use crate::unparsed::write_unparsed;
+use crate::watching::run_watch;
 use rds_files::{Disk, LockFile};
 use rds_keep::Counted;
 use rds_lines::{Layout, run_join, run_sim};
@@ -34,8 +35,8 @@ use std::io::{Read, Write};
 use std::net::Net;
 
 /// Runs the command that the words name, and answers the exit status. The first word is the
-/// program's name, whatever it is. `run` is left to the site, and so are `sync` and `init --from` of an address that
-/// begins with `http://`, and what a command asks where such an address stands in place of a file.
+/// program's name, whatever it is. `run` is left to the site, and so are `watch`, `sync` and `init --from` of an address
+/// that begins with `http://`, and what a command asks where such an address stands in place of a file.
 ///
 /// A fault is written as the line `fault N: Name` and answered by 1. Words that the command line
 /// doesn't have are `Usage`: that line, then the library's text, and 2. Help and the version are written
@@ -154,5 +155,6 @@ where
         Task::Merge { file, from } => run_merge(rt, file, from, writer),
         Task::Check { question, answer } => run_check(rt, question, answer, reader, writer),
         Task::Diff { file, other } => run_diff(rt, file, other, writer),
+        Task::Watch(words) => run_watch(rt, words, site, writer),
     }
 }

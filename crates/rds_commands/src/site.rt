@@ -2,8 +2,8 @@
 ghost use Rattle.std.specs.Prelude.{IfSome};
 ghost use Rattle.rds_commands.specs.Visits.{IsBrought};
 
-use rds_names::Fault;
-use rds_words::{RunWords, SyncWords};
+use rds_names::{Fault, Path};
+use rds_words::{RunWords, SyncWords, WatchWords};
 use std::time::Duration;
 
 /// What came of a meeting with a site.
@@ -43,7 +43,7 @@ pub enum SiteRequest<'a> {
     Snapshot,
 }
 
-/// Runs sites, each over the replica in a file, meets them, and calls them.
+/// Runs sites, each over the replica in a file, meets them, calls them, and follows them.
 pub trait RunSite<H> {
     /// Serves the file over HTTP until a fault ends that, and answers the fault.
     fn run_site(&self, rt: &H, words: RunWords<'_>) -> Fault;
@@ -55,4 +55,8 @@ pub trait RunSite<H> {
     /// Asks the site at the address, `http://HOST:PORT`, and answers what it says. A fault by which it refuses comes
     /// back as that, such as `BadName` and `BadRoster` of a name. Why there is no answer is told on standard error.
     fn call_site(&self, rt: &H, address: &str, request: SiteRequest<'_>) -> Result<Vec<u8>, Fault>;
+
+    /// Prints what the site at the address, `http://HOST:PORT`, tells of its changes at a path, below it or above it, until
+    /// a fault ends that, and answers the fault. Why it ended is told on standard error.
+    fn watch_site(&self, rt: &H, words: WatchWords<'_>, part: &Path) -> Fault;
 }

@@ -1,9 +1,11 @@
-//! The sites that the program runs, meets and calls.
+//! The sites that the program runs, meets, calls and follows.
 use rds_commands::{RunSite, SiteRequest, Visit};
 use rds_files::{Disk, LockFile};
-use rds_names::Fault;
-use rds_site::{AskWords, Resource, SiteWords, VisitWords, ask_node, run_site, sync_site};
-use rds_words::{RunWords, SyncWords, interval_of};
+use rds_names::{Fault, Path};
+use rds_site::{
+    AskWords, Resource, SiteWords, VisitWords, ask_node, run_site, sync_site, watch_node,
+};
+use rds_words::{RunWords, SyncWords, WatchWords, interval_of};
 use std::env;
 use std::env::{Env, VarError};
 use std::net::Net;
@@ -16,7 +18,7 @@ const PATIENCE: u64 = 60;
 /// The variable of the environment that has the path of the token's file for commands that call a node.
 const TOKEN_FILE: &str = "RDS_TOKEN_FILE";
 
-/// The sites that the program runs, meets and calls.
+/// The sites that the program runs, meets, calls and follows.
 pub struct Sites;
 
 impl<H: Disk + Env + Net + RandomSource + Print> RunSite<H> for Sites
@@ -83,6 +85,16 @@ where
                 ask_node(rt, &words, Resource::Grow, "", &[name.as_bytes()])
             }
             SiteRequest::Snapshot => ask_node(rt, &words, Resource::Snapshot, "", &[]),
+        }
+    }
+
+    fn watch_site(&self, rt: &H, words: WatchWords<'_>, part: &Path) -> Fault {
+        match token_file(rt) {
+            Ok(named) => {
+                let token_file = first_of(words.token_file, &named);
+                watch_node(rt, &ask_words(words.node, token_file), part)
+            }
+            Err(fault) => fault,
         }
     }
 }

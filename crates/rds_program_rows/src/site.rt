@@ -3,8 +3,8 @@ ghost use Rattle.std.specs.Prelude.{◌≡◌};
 
 use rds_commands::{RunSite, SiteRequest, Visit};
 use rds_files::Disk;
-use rds_names::Fault;
-use rds_words::{RunWords, SyncWords, interval_of};
+use rds_names::{Fault, Path};
+use rds_words::{RunWords, SyncWords, WatchWords, interval_of};
 use std::alloc::Global;
 use std::fs;
 use std::time::Duration;
@@ -70,6 +70,19 @@ impl<H: Disk> RunSite<H> for ToldSite {
                 Err(_) => Err(Fault::Device),
             },
             _ => Err(Fault::Device),
+        }
+    }
+
+    // Of the site http://h:1, `PeerEnded` where the root is followed and there is no token, `OutOfTurn` for the path a/b and
+    // the token t, and `Device` for other words; `NoSuch` for other sites.
+    fn watch_site(&self, _rt: &H, words: WatchWords<'_>, part: &Path) -> Fault {
+        if words.node != "http://h:1" {
+            return Fault::NoSuch;
+        }
+        match (words.path, part.len(), words.token_file) {
+            ("", 0, None) => Fault::PeerEnded,
+            ("a/b", 2, Some(token)) if token == "t" => Fault::OutOfTurn,
+            _ => Fault::Device,
         }
     }
 }

@@ -1,8 +1,8 @@
 //! Calls of a node: a request and its response, over a connection of their own that is waited for.
 use crate::destinations::{Destination, find_node};
-use crate::requests::{DONE, NOT_MODIFIED, Request, Response, Talk};
+use crate::requests::{DONE, NOT_MODIFIED, Request, Response, SWITCHED, Talk};
 use crate::troubles::{Trouble, tell};
-use bytes::Buf;
+use bytes::{Buf, BytesMut};
 use rds_files::Disk;
 use rds_http::Token;
 use rds_names::Fault;
@@ -128,6 +128,24 @@ impl<'a> Caller<'a> {
         };
         trouble.tell(rt, self.name());
         Err(trouble)
+    }
+
+    /// Has the node hand a connection over, for what it tells of its changes, by a handshake of this key. Answers the
+    /// connection, and what came over it already.
+    pub fn open_live<H: Disk + Net>(
+        &mut self,
+        rt: &H,
+        key: &[u8; 24],
+    ) -> Result<(H::Stream, BytesMut), Trouble> {
+        let mut talk = Talk::new(rt.alloc());
+        talk.handshake(&self.destination, key)?;
+        let mut stream = self.connect(rt)?;
+        self.send(rt, &mut stream, &mut talk)?;
+        let response = self.hear(rt, &mut stream, &mut talk)?;
+        if response.head.status != SWITCHED {
+            return Err(Trouble::Refused(response));
+        }
+        Ok((stream, talk.take_input()))
     }
 
     // Makes a request, and answers the response. A node that takes no more of the request may still answer it.

@@ -2,7 +2,8 @@
 //! HTTP, and meet other nodes over theirs. Read `words`, `addresses`, `secrets`; then `committed`, `reserve`, `behind`,
 //! `forks`, `logging`, `sockets`, `listeners`, `clients`, `table`; then `destinations`, `schedule`, `requests`,
 //! `troubles`, `channels`, `levels`, `exchanges`, `peers`, `peer_table`; then `arrivals`, `turns`, `running`. A node that
-//! is called: `calling`; by a file that meets it, `visiting`; by a command, `asking`.
+//! is called: `calling`; by a file that meets it, `visiting`; by a command, `asking`; by one that follows it, `changes`,
+//! `feed`, `watching`.
 #![tactic(auto)]
 
 mod addresses;
@@ -10,11 +11,13 @@ mod arrivals;
 mod asking;
 mod behind;
 mod calling;
+mod changes;
 mod channels;
 mod clients;
 mod committed;
 mod destinations;
 mod exchanges;
+mod feed;
 mod forks;
 mod levels;
 mod listeners;
@@ -31,6 +34,7 @@ mod table;
 mod troubles;
 mod turns;
 mod visiting;
+mod watching;
 mod words;
 
 pub use asking::{AskWords, ask_node};
@@ -38,4 +42,5 @@ pub use committed::{Committed, commit};
 pub use requests::Resource;
 pub use running::run_site;
 pub use visiting::{Visit, VisitWords, sync_site};
+pub use watching::watch_node;
 pub use words::SiteWords;

@@ -8,12 +8,26 @@ use percent_encoding::{AsciiSet, NON_ALPHANUMERIC, ascii_set, utf8_percent_encod
 use rds_http::Tag;
 use std::alloc::{AllocError, Global};
 use std::{mem, str};
+use websocket::handshake::derive_accept_key;
+
+/// The status of a connection that is handed over.
+pub const SWITCHED: u16 = 101;
 
 /// The status of a request that was done.
 pub const DONE: u16 = 200;
 
 /// The status of a question that is not sent, since it is known.
 pub const NOT_MODIFIED: u16 = 304;
+
+/// What is asked for what is told of changes.
+const LIVE: &[u8] = b"/live";
+
+/// The fields of a handshake for it, but for its key.
+const HANDSHAKE: [(&[u8], &[u8]); 3] = [
+    (b"connection", b"Upgrade"),
+    (b"upgrade", b"websocket"),
+    (b"sec-websocket-version", b"13"),
+];
 
 /// The longest body of a response, in bytes.
 const LONGEST_BODY: usize = 268_435_456;
@@ -221,6 +235,8 @@ pub struct Talk {
     pub input: BytesMut,
     // The type that the body of the response is to have.
     kind: &'static [u8],
+    // What accepts the handshake, where one was asked for (RFC 6455).
+    accept: [u8; 28],
     // What came of the response.
     head: Head,
     body: Vec<u8>,
@@ -235,6 +251,7 @@ impl Talk {
             output: BytesMut::new(alloc),
             input: BytesMut::new(alloc),
             kind: &[],
+            accept: [0; 28],
             head: Head::NONE,
             body: Vec::new(alloc),
         }
@@ -277,8 +294,24 @@ impl Talk {
         Ok(())
     }
 
-    /// Reads the response out of what came, as far as that goes. Answers it once it is whole. `Foreign` where it says
-    /// that the request was done, and its body isn't of the type that a node gives.
+    /// Writes a request for what is told of changes: the connection is to be handed over to WebSocket, by a handshake of
+    /// this key (RFC 6455).
+    pub fn handshake(
+        &mut self,
+        destination: &Destination<'_>,
+        key: &[u8; 24],
+    ) -> Result<(), Trouble> {
+        let fields = handshake_fields(self.alloc, destination, key)?;
+        self.client
+            .write_request(&mut self.output, b"GET", LIVE, &fields, BodySize::Empty)?;
+        self.client.write_end(&mut self.output, &[])?;
+        self.accept = derive_accept_key(key);
+        Ok(())
+    }
+
+    /// Reads the response out of what came, as far as that goes. Answers it once it is whole, or once the connection is
+    /// handed over. `Foreign` where it says that the request was done, and its body isn't of the type that a node gives,
+    /// or where it hands over otherwise than was asked for.
     pub fn next(&mut self) -> Result<Option<Response>, Trouble> {
         for _ in 0..u64::MAX {
             let mut fields = [EMPTY_HEADER_SPAN; FIELDS];
@@ -287,6 +320,7 @@ impl Talk {
                 Event::Head(head) => {
                     let own = fields.get(..head.headers).unwrap_or(&[]);
                     self.head = Head::read(head.code, self.input.as_slice(), own, self.kind);
+                    self.check_handover(own)?;
                     self.check_size()?;
                 }
                 Event::Data(span) => self.keep(span)?,
@@ -300,7 +334,8 @@ impl Talk {
                     return self.response();
                 }
                 Event::Paused => return Ok(None),
-                Event::Upgraded | Event::Closed => return Err(Trouble::Ended),
+                Event::Upgraded => return self.response(),
+                Event::Closed => return Err(Trouble::Ended),
             }
             self.advance(read.consumed);
         }
@@ -313,6 +348,20 @@ impl Talk {
             Event::End(_) => self.response(),
             _ => Err(Trouble::Ended),
         }
+    }
+
+    // Refuses a head with these fields that hands the connection over, but not as the handshake asked for.
+    fn check_handover(&self, fields: &[HeaderSpan]) -> Result<(), Trouble> {
+        let text = self.input.as_slice();
+        let is_due = value_of(text, fields, b"upgrade").eq_ignore_ascii_case(b"websocket")
+            && value_of(text, fields, b"connection").eq_ignore_ascii_case(b"upgrade")
+            && value_of(text, fields, b"sec-websocket-accept") == self.accept.as_slice()
+            && value_of(text, fields, b"sec-websocket-extensions").is_empty()
+            && value_of(text, fields, b"sec-websocket-protocol").is_empty();
+        if self.head.status == SWITCHED && !is_due {
+            return Err(Trouble::Foreign);
+        }
+        Ok(())
     }
 
     // Refuses a body of which the head says that it is too long.
@@ -355,6 +404,11 @@ impl Talk {
         self.body.len()
     }
 
+    /// Hands out what came and wasn't read.
+    pub fn take_input(&mut self) -> BytesMut {
+        mem::replace(&mut self.input, BytesMut::new(self.alloc))
+    }
+
     /// Lets go of what is to be sent, and of its room.
     pub fn clear_output(&mut self) {
         self.output = BytesMut::new(self.alloc);
@@ -375,7 +429,7 @@ fn fields_of<'f>(
     destination: &'f Destination<'_>,
     tag: Option<&'f str>,
 ) -> Result<Vec<Header<'f>>, AllocError> {
-    let mut fields = Vec::with_capacity(alloc, 3)?;
+    let mut fields = Vec::with_capacity(alloc, 6)?;
     fields.push(Header {
         name: b"host",
         value: destination.name().as_bytes(),
@@ -392,6 +446,23 @@ fn fields_of<'f>(
             value: tag.as_bytes(),
         })?;
     }
+    Ok(fields)
+}
+
+// The fields of a handshake of this key.
+fn handshake_fields<'f>(
+    alloc: Global,
+    destination: &'f Destination<'_>,
+    key: &'f [u8; 24],
+) -> Result<Vec<Header<'f>>, AllocError> {
+    let mut fields = fields_of(alloc, destination, None)?;
+    for (name, value) in HANDSHAKE {
+        fields.push(Header { name, value })?;
+    }
+    fields.push(Header {
+        name: b"sec-websocket-key",
+        value: key,
+    })?;
     Ok(fields)
 }
 

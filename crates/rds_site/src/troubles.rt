@@ -8,6 +8,7 @@ use http1::{ReadError, WriteError};
 use rds_names::Fault;
 use std::alloc::AllocError;
 use std::{fmt, io, str};
+use websocket::error::Error as FrameError;
 
 /// So many bytes of a peer's own words, or of a fault's name, are told at most: strangers choose them.
 const MOST_TOLD: usize = 200;
@@ -48,7 +49,9 @@ pub enum Trouble {
     Silence(u64),
     /// A response is none of HTTP/1.1.
     Garbled(ReadError),
-    /// A response says that a request was done, and is none of a node.
+    /// What comes over a connection that was handed over is no WebSocket (RFC 6455).
+    Unframed(FrameError),
+    /// A response says that a request was done, and is none of a node; nor is what is told of changes.
     Foreign,
     /// A response is too long, alone or with those of other peers.
     TooLong,
@@ -87,6 +90,17 @@ impl From<WriteError> for Trouble {
         match error {
             WriteError::OutOfMemory => Trouble::Memory,
             _ => Trouble::Ended,
+        }
+    }
+}
+
+impl From<FrameError> for Trouble {
+    fn from(error: FrameError) -> Trouble {
+        match error {
+            FrameError::OutOfMemory => Trouble::Memory,
+            FrameError::ConnectionClosed | FrameError::AlreadyClosed => Trouble::Ended,
+            FrameError::Capacity(_) => Trouble::TooLong,
+            _ => Trouble::Unframed(error),
         }
     }
 }
@@ -179,7 +193,7 @@ impl Trouble {
             Trouble::Memory => Fault::Memory,
             Trouble::System(_) | Trouble::Silence(_) => Fault::Device,
             Trouble::Ended | Trouble::Refused(_) => Fault::PeerEnded,
-            Trouble::Garbled(_) | Trouble::Foreign => Fault::OutOfTurn,
+            Trouble::Garbled(_) | Trouble::Unframed(_) | Trouble::Foreign => Fault::OutOfTurn,
             Trouble::TooLong => Fault::TooLong,
             Trouble::Unfit(fault) => *fault,
         }
@@ -214,6 +228,7 @@ impl fmt::Display for Trouble {
                 write!(f, "lost: nothing or too little in {seconds} seconds")
             }
             Trouble::Garbled(error) => write!(f, "lost: its response is no HTTP/1.1: {error}"),
+            Trouble::Unframed(error) => write!(f, "lost: what it says is no WebSocket: {error}"),
             Trouble::Foreign => f.write_str("lost: is no node: its response has another type"),
             Trouble::TooLong => f.write_str("lost: its response is too long"),
             Trouble::Refused(response) => write_refusal(response, f),

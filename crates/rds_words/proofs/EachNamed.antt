@@ -4,7 +4,7 @@ use Rattle.std.specs.Prelude.{map, option_map}
 use Rattle.std.specs.Borrow.{Bor}
 use Rattle.clap.specs.Words.{Text, built}
 use Rattle.rds_words.specs.declared.tasks.Task.{Task}
-use Rattle.rds_words.specs.declared.tasks.Task.TheVariants.{Join, Sim, Files, Faults, Init, InitFrom, Grow, Edit, EditIfChanged, EditLines, Get, GetRaw, Show, ShowPretty, Dump, Compact, Status, Serve, Run, Sync, Pair, Ask, Answer, Take, Merge, Check, Conflicts, Diff}
+use Rattle.rds_words.specs.declared.tasks.Task.TheVariants.{Join, Sim, Files, Faults, Init, InitFrom, Grow, Edit, EditIfChanged, EditLines, Get, GetRaw, Show, ShowPretty, Dump, Compact, Status, Serve, Run, Sync, Pair, Ask, Answer, Take, Merge, Check, Conflicts, Diff, Watch}
 use Rattle.rds_words.specs.declared.tasks.EditWords.TheVariants.{Set, Add, Del, Clear, ClearAll, Inc, Dec}
 use Rattle.rds_words.specs.declared.tasks.ValueWord.TheVariants as word
 use Rattle.rds_words.specs.Commands.{node_app}
@@ -16,7 +16,7 @@ use Rattle.rds_words.proofs.CommandWords.{node_on_words}
 use Rattle.rds_words.proofs.Dashed.{Meets, undashed_fault, undashed_rows}
 use Rattle.rds_words.proofs.GrowNamed.{grow_dashed, grow_met}
 use Rattle.rds_words.proofs.OptionPlans.{add_takes, set_takes}
-use Rattle.rds_words.proofs.OptionsNamed.{all_cleared, changed_named, del_text_named, get_counter_named, get_raw_named, get_reg_named, get_set_named, init_dashed, init_from_named, pretty_named, run_dashed, run_named, serve_named, sync_named, text_changed_named, text_named}
+use Rattle.rds_words.proofs.OptionsNamed.{all_cleared, changed_named, del_text_named, get_counter_named, get_raw_named, get_reg_named, get_set_named, init_dashed, init_from_named, pretty_named, run_dashed, run_named, serve_named, sync_named, text_changed_named, text_named, watch_named}
 use Rattle.rds_words.specs.declared.tasks.RawKind.TheVariants as kind
 
 -- words that are data need no dashes
@@ -167,6 +167,18 @@ conflicts_root_dashed name file = (refl, refl)
 pub diff_dashed : (name file other : Text) → Names (name ∷ codes "diff" ∷ codes "--" ∷ file ∷ other ∷ []) (codes "diff" ∷ file ∷ other ∷ [])
 unfolding node_on_words
 diff_dashed name file other = (refl, refl)
+
+watch_dashed : (name node path : Text) (token : Option Text) → Names (name ∷ codes "watch" ∷ (token_words token ++ codes "--" ∷ node ∷ path ∷ [])) (codes "watch" ∷ node ∷ path ∷ token_words token)
+unfolding node_on_words
+watch_dashed name node path None = (refl, refl)
+watch_dashed name node path (Some token) = (refl, refl)
+
+pub watch_path_dashed : (name node path : Text) → Names (name ∷ codes "watch" ∷ codes "--" ∷ node ∷ path ∷ []) (codes "watch" ∷ node ∷ path ∷ [])
+watch_path_dashed name node path = watch_dashed name node path None
+
+pub watch_root_dashed : (name node : Text) → Names (name ∷ codes "watch" ∷ codes "--" ∷ node ∷ []) (codes "watch" ∷ node ∷ [] ∷ [])
+unfolding node_on_words
+watch_root_dashed name node = (refl, refl)
 
 init_from_dashed : (name file own from : Text) → Names (name ∷ codes "init" ∷ (codes "--from=" ++ from) ∷ codes "--" ∷ file ∷ own ∷ []) (codes "init" ∷ file ∷ own ∷ (codes "--from=" ++ from) ∷ [])
 unfolding node_on_words
@@ -338,6 +350,10 @@ pub run_met : Meets (built node_app) (codes "run")
 unfolding node_on_words
 run_met = (refl, refl)
 
+watch_met : Meets (built node_app) (codes "watch")
+unfolding node_on_words
+watch_met = (refl, refl)
+
 -- ---- each task
 
 init_behind : (name file group own : Text) (names : List (Bor Text)) → (names ≡ [] → ⊥)
@@ -399,6 +415,7 @@ task_dashed name (Merge file from) has = merge_dashed name file.now from.now
 task_dashed name (Check question answer) has = check_dashed name question.now answer.now
 task_dashed name (Conflicts file path) has = conflicts_dashed name file.now path.now
 task_dashed name (Diff file other) has = diff_dashed name file.now other.now
+task_dashed name (Watch words) has = watch_dashed name words.node.now words.path.now (option_map (λ t. t.now) words.token_file)
 
 pub task_written : (name : Text) (task : Task) → IsWritable task → Names (name ∷ words_written task) (words_of task)
 task_written name Join is = undashed name (codes "join") [] _ join_met is.1 (join_dashed name)
@@ -451,6 +468,7 @@ task_written name (Merge file from) is = undashed name (codes "merge") (file.now
 task_written name (Check question answer) is = undashed name (codes "check") (question.now ∷ answer.now ∷ []) _ check_met is.1 (check_dashed name question.now answer.now)
 task_written name (Conflicts file path) is = undashed name (codes "conflicts") (file.now ∷ path.now ∷ []) _ conflicts_met is.1 (conflicts_dashed name file.now path.now)
 task_written name (Diff file other) is = undashed name (codes "diff") (file.now ∷ other.now ∷ []) _ diff_met is.1 (diff_dashed name file.now other.now)
+task_written name (Watch words) is = watch_named name words.node.now words.path.now (option_map (λ t. t.now) words.token_file) is.1
 
 -- ---- what may be left out
 
@@ -465,3 +483,6 @@ sync_alone name file addr are = undashed name (codes "sync") (file ∷ addr ∷ 
 
 pub run_alone : (name file : Text) → AreData (file ∷ []) → Names (name ∷ codes "run" ∷ file ∷ []) (codes "run" ∷ file ∷ codes "127.0.0.1:7780" ∷ codes "10" ∷ [])
 run_alone name file are = undashed name (codes "run") (file ∷ []) _ run_met are (run_alone_dashed name file)
+
+pub watch_root : (name node : Text) → AreData (node ∷ []) → Names (name ∷ codes "watch" ∷ node ∷ []) (codes "watch" ∷ node ∷ [] ∷ [])
+watch_root name node are = undashed name (codes "watch") (node ∷ []) _ watch_met are (watch_root_dashed name node)

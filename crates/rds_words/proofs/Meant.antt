@@ -16,6 +16,7 @@ use Rattle.rds_words.proofs.PlainCommands as plain
 use Rattle.rds_words.proofs.PlainForms.{IsKnown, IsPlain, known}
 use Rattle.rds_words.proofs.PlanMeant.{means}
 use Rattle.rds_words.proofs.Splitting.{HasOption, mistaken_alike, named_alike, option_mistaken, split}
+use Rattle.rds_words.proofs.WatchPlan.{watch_is, watch_plan, watch_takes}
 
 same_words : {command : Text} {a b : List Text} → ◌≡◌ {A = Option (List Text)} (Some (command ∷ a)) (Some (command ∷ b)) → a ≡ b
 same_words e = cc
@@ -135,10 +136,10 @@ each_plain = (
 )
 
 each_known : Each IsKnown option_counts
-each_known = (known _ _ _ plans.set_is options.set_counted, (known _ _ _ plans.add_is options.add_counted, (known _ _ _ plans.del_is options.del_counted, (known _ _ _ plans.get_is options.get_counted, (known _ _ _ plans.show_is options.show_counted, (known _ _ _ plans.sync_is options.sync_counted, (known _ _ _ plans.serve_is options.serve_counted, (known _ _ _ plans.run_is options.run_counted, tt))))))))
+each_known = (known _ _ _ plans.set_is options.set_counted, (known _ _ _ plans.add_is options.add_counted, (known _ _ _ plans.del_is options.del_counted, (known _ _ _ plans.get_is options.get_counted, (known _ _ _ plans.show_is options.show_counted, (known _ _ _ plans.sync_is options.sync_counted, (known _ _ _ plans.serve_is options.serve_counted, (known _ _ _ plans.run_is options.run_counted, (known _ _ _ watch_is options.watch_counted, tt)))))))))
 
 each_with_options : Each MeansWithOptions with_options
-each_with_options = (means plans.init_plan plans.init_takes, (means plans.set_plan plans.set_takes, (means plans.add_plan plans.add_takes, (means plans.del_plan plans.del_takes, (means clear_plan clear_takes, (means plans.get_plan plans.get_takes, (means plans.show_plan plans.show_takes, (means plans.sync_plan plans.sync_takes, (means plans.serve_plan plans.serve_takes, (means plans.run_plan plans.run_takes, tt))))))))))
+each_with_options = (means plans.init_plan plans.init_takes, (means plans.set_plan plans.set_takes, (means plans.add_plan plans.add_takes, (means plans.del_plan plans.del_takes, (means clear_plan clear_takes, (means plans.get_plan plans.get_takes, (means plans.show_plan plans.show_takes, (means plans.sync_plan plans.sync_takes, (means plans.serve_plan plans.serve_takes, (means plans.run_plan plans.run_takes, (means watch_plan watch_takes, tt)))))))))))
 
 -- ---- the laws
 

@@ -3,7 +3,7 @@ use Rattle.std.proofs.Common.{◌≡◌, ◌∙◌, ℕ, List, [], ◌∷◌, co
 use Rattle.clap.specs.Words.{Text}
 use Rattle.rds_words.specs.Task.{EditsByLines, words_of}
 use Rattle.rds_words.specs.declared.tasks.Task.{Task}
-use Rattle.rds_words.specs.declared.tasks.Task.TheVariants.{Join, Sim, Files, Faults, Init, InitFrom, Grow, Edit, EditIfChanged, EditLines, Get, GetRaw, Show, ShowPretty, Dump, Compact, Status, Serve, Run, Sync, Pair, Ask, Answer, Take, Merge, Check, Conflicts, Diff}
+use Rattle.rds_words.specs.declared.tasks.Task.TheVariants.{Join, Sim, Files, Faults, Init, InitFrom, Grow, Edit, EditIfChanged, EditLines, Get, GetRaw, Show, ShowPretty, Dump, Compact, Status, Serve, Run, Sync, Pair, Ask, Answer, Take, Merge, Check, Conflicts, Diff, Watch}
 use Rattle.rds_words.specs.declared.tasks.EditWords.TheVariants.{Set, Add, Del, Clear, ClearAll, Inc, Dec}
 
 -- the first byte of the command's name
@@ -52,6 +52,7 @@ told (Merge file from) = (λ e. absurd cc, λ e. absurd cc, λ at e. absurd cc)
 told (Check question answer) = (λ e. absurd cc, λ e. absurd cc, λ at e. absurd cc)
 told (Conflicts file path) = (λ e. absurd cc, λ e. absurd cc, λ at e. absurd cc)
 told (Diff file other) = (λ e. absurd cc, λ e. absurd cc, λ at e. absurd cc)
+told (Watch words) = (λ e. absurd cc, λ e. absurd cc, λ at e. absurd cc)
 told (InitFrom words) = (λ e. absurd cc, λ e. absurd cc, λ at e. absurd cc)
 told (GetRaw file path kind) = (λ e. absurd cc, λ e. absurd cc, λ at e. absurd cc)
 

@@ -3,10 +3,11 @@ use Rattle.std.proofs.Common.{[], ◌∷◌, codes}
 use Rattle.rds_words.specs.Spelling.{before, exactly, or_root}
 use Rattle.rds_words.proofs.CommandWords.{node_on_words}
 use Rattle.rds_words.proofs.Counting.{IsCountedCommand, takes_one_before, takes_part, takes_three, takes_two, takes_two_before}
-use Rattle.rds_words.proofs.EachNamed.{add_dashed, del_dashed, get_dashed, once_dashed, run_alone_dashed, set_dashed, show_dashed, show_root_dashed, sync_alone_dashed}
+use Rattle.rds_words.proofs.EachNamed.{add_dashed, del_dashed, get_dashed, once_dashed, run_alone_dashed, set_dashed, show_dashed, show_root_dashed, sync_alone_dashed, watch_path_dashed, watch_root_dashed}
 use Rattle.rds_words.proofs.OptionPlans.{add_is, del_is, get_is, run_is, serve_is, set_is, show_is, sync_is}
 use Rattle.rds_words.proofs.Refusing.{IsRefused}
 use Rattle.rds_words.proofs.Splitting.{refused_below}
+use Rattle.rds_words.proofs.WatchPlan.{watch_is}
 
 pub set_counted : IsCountedCommand (codes "set") (exactly 3)
 unfolding IsRefused node_on_words
@@ -54,3 +55,9 @@ unfolding IsRefused node_on_words
 run_counted =
     takes_one_before (codes "run") (codes "127.0.0.1:7780" ∷ codes "10" ∷ []) (λ a called. run_alone_dashed called a) (λ called. tt)
     (λ a b more called. refused_below called _ _ (codes "--" ∷ a ∷ b ∷ more) run_is tt)
+
+pub watch_counted : IsCountedCommand (codes "watch") (or_root 2)
+unfolding IsRefused node_on_words
+watch_counted =
+    takes_part (codes "watch") (λ a b called. watch_path_dashed called a b) (λ a called. watch_root_dashed called a) (λ called. tt)
+    (λ a b c more called. refused_below called _ _ (codes "--" ∷ a ∷ b ∷ c ∷ more) watch_is tt)

@@ -15,6 +15,7 @@ use Rattle.rds_words.proofs.ClearPlan.{clear_plan, clear_takes}
 use Rattle.rds_words.proofs.OptionPlans.{del_plan, del_takes, entry_plan, get_plan, get_takes, init_plan, init_takes, run_plan, run_takes, serve_plan, serve_takes, show_plan, show_takes, sync_plan, sync_takes}
 use Rattle.rds_words.proofs.PlanMeant.{means}
 use Rattle.rds_words.proofs.PlanWalk.{Plan, Takes}
+use Rattle.rds_words.proofs.WatchPlan.{watch_plan, watch_takes}
 
 module _ (p : Plan) (c : Takes p) where
   -- parts with no rest behind them
@@ -171,6 +172,29 @@ sync_token_alone name file addr token are =
     typed_names sync_plan sync_takes name (file ∷ addr ∷ codes "--token-file" ∷ token ∷ []) (file ∷ addr ∷ codes "60" ∷ (codes "--token-file=" ++ token) ∷ []) (typed_word file ∷ typed_word addr ∷ typed_option (codes "--token-file") token ∷ [])
     (addr ∷ codes "--token-file" ∷ token ∷ [], refl, (and_left (is_data file) _ are), (codes "--token-file" ∷ token ∷ [], refl, (and_left (is_data addr) _ (and_right (is_data file) _ are)), ([], inl (refl, (and_left (is_data token) _ (and_right (is_data addr) _ (and_right (is_data file) _ are)))), refl)))
     (refl, tt) (tt, (tt, tt)) refl refl
+
+pub watch_named : (name node path : Text) (token : Option Text) → AreData (node ∷ path ∷ []) → Names (name ∷ codes "watch" ∷ node ∷ path ∷ token_words token) (codes "watch" ∷ node ∷ path ∷ token_words token)
+watch_named name node path None are =
+    typed_names watch_plan watch_takes name (node ∷ path ∷ []) (node ∷ path ∷ []) (typed_word node ∷ typed_word path ∷ [])
+    (path ∷ [], refl, (and_left (is_data node) _ are), ([], refl, (and_left (is_data path) _ (and_right (is_data node) _ are)), refl))
+    tt (tt, tt) refl refl
+watch_named name node path (Some token) are =
+    let last = (codes "--token-file=" ++ token) ∷ [] in
+    typed_names watch_plan watch_takes name (node ∷ path ∷ last) (node ∷ path ∷ last) (typed_word node ∷ typed_word path ∷ typed_option (codes "--token-file") token ∷ [])
+    (path ∷ last, refl, (and_left (is_data node) _ are), (last, refl, (and_left (is_data path) _ (and_right (is_data node) _ are)), ([], inr refl, refl)))
+    (refl, tt) (tt, tt) refl refl
+
+pub watch_token_alone : (name node token : Text) → AreData (node ∷ token ∷ []) → Names (name ∷ codes "watch" ∷ node ∷ codes "--token-file" ∷ token ∷ []) (codes "watch" ∷ node ∷ [] ∷ (codes "--token-file=" ++ token) ∷ [])
+watch_token_alone name node token are =
+    typed_names watch_plan watch_takes name (node ∷ codes "--token-file" ∷ token ∷ []) (node ∷ [] ∷ (codes "--token-file=" ++ token) ∷ []) (typed_word node ∷ typed_option (codes "--token-file") token ∷ [])
+    (codes "--token-file" ∷ token ∷ [], refl, (and_left (is_data node) _ are), ([], inl (refl, (and_left (is_data token) _ (and_right (is_data node) _ are))), refl))
+    (refl, tt) (tt, tt) refl refl
+
+pub watch_token_behind : (name node path token : Text) → AreData (node ∷ path ∷ token ∷ []) → Names (name ∷ codes "watch" ∷ node ∷ path ∷ codes "--token-file" ∷ token ∷ []) (codes "watch" ∷ node ∷ path ∷ (codes "--token-file=" ++ token) ∷ [])
+watch_token_behind name node path token are =
+    typed_names watch_plan watch_takes name (node ∷ path ∷ codes "--token-file" ∷ token ∷ []) (node ∷ path ∷ (codes "--token-file=" ++ token) ∷ []) (typed_word node ∷ typed_word path ∷ typed_option (codes "--token-file") token ∷ [])
+    (path ∷ codes "--token-file" ∷ token ∷ [], refl, (and_left (is_data node) _ are), (codes "--token-file" ∷ token ∷ [], refl, (and_left (is_data path) _ (and_right (is_data node) _ are)), ([], inl (refl, (and_left (is_data token) _ (and_right (is_data path) _ (and_right (is_data node) _ are)))), refl)))
+    (refl, tt) (tt, tt) refl refl
 
 -- ---- run
 

@@ -65,6 +65,10 @@ answer_rule = required_rule (codes "ANSWER")
 abbrev pub address_rule : Rule
 address_rule = required_rule (codes "ADDR")
 
+-- the address of a node
+abbrev pub node_rule : Rule
+node_rule = required_rule (codes "NODE")
+
 -- how many sessions, as an option, 1 where it isn't given
 abbrev pub sessions_rule : Rule
 sessions_rule = defaulted_rule (codes "SESSIONS") (codes "sessions") (codes "1")
@@ -166,6 +170,7 @@ commands =
     ∷ command_app (codes "check") (question_rule ∷ answer_rule ∷ [])
     ∷ command_app (codes "conflicts") (file_rule ∷ part_rule ∷ [])
     ∷ command_app (codes "diff") (file_rule ∷ required_rule (codes "OTHER") ∷ [])
+    ∷ command_app (codes "watch") (node_rule ∷ part_rule ∷ token_rule ∷ [])
     ∷ command_app (codes "join") []
     ∷ command_app (codes "sim") []
     ∷ command_app (codes "files") []

@@ -46,6 +46,19 @@ pub record SyncMayLackWords : Type 0 where
       → Names (name ∷ codes "sync" ∷ file ∷ addr ∷ codes "--token-file" ∷ token ∷ [])
       (codes "sync" ∷ file ∷ addr ∷ codes "60" ∷ (codes "--token-file=" ++ token) ∷ [])
 
+-- a path that `watch` lacks is the root
+pub record WatchMayLackWords : Type 0 where
+  pub alone : (name node : Text) → AreData (node ∷ [])
+      → Names (name ∷ codes "watch" ∷ node ∷ []) (codes "watch" ∷ node ∷ [] ∷ [])
+  pub alone_dashed : (name node : Text)
+      → Names (name ∷ codes "watch" ∷ codes "--" ∷ node ∷ []) (codes "watch" ∷ node ∷ [] ∷ [])
+  pub token_alone : (name node token : Text) → AreData (node ∷ token ∷ [])
+      → Names (name ∷ codes "watch" ∷ node ∷ codes "--token-file" ∷ token ∷ [])
+      (codes "watch" ∷ node ∷ [] ∷ (codes "--token-file=" ++ token) ∷ [])
+  pub token_behind : (name node path token : Text) → AreData (node ∷ path ∷ token ∷ [])
+      → Names (name ∷ codes "watch" ∷ node ∷ path ∷ codes "--token-file" ∷ token ∷ [])
+      (codes "watch" ∷ node ∷ path ∷ (codes "--token-file=" ++ token) ∷ [])
+
 -- `run` serves at 127.0.0.1:7780 where it isn't told where, and meets its peers again after 10 seconds where it isn't
 -- told how long
 pub record RunMayLackWords : Type 0 where

@@ -85,6 +85,7 @@ option_counts =
     ∷ (codes "sync", before 2 (codes "60" ∷ []))
     ∷ (codes "serve", before 2 (codes "1" ∷ codes "60" ∷ []))
     ∷ (codes "run", before 1 (codes "127.0.0.1:7780" ∷ codes "10" ∷ []))
+    ∷ (codes "watch", or_root 2)
     ∷ []
 
 -- how many words a command of these takes

@@ -52,6 +52,7 @@ use Rattle.rds_words.specs.declared.tasks.Task.TheVariants.{
   Check,
   Conflicts,
   Diff,
+  Watch,
 }
 use Rattle.rds_words.specs.declared.tasks.EditWords.{EditWords}
 use Rattle.rds_words.specs.declared.tasks.EditWords.TheVariants.{Set, Add, Del, Clear, ClearAll, Inc, Dec}
@@ -133,6 +134,8 @@ words_of (Merge file from) = codes "merge" ∷ file.now ∷ from.now ∷ []
 words_of (Check question answer) = codes "check" ∷ question.now ∷ answer.now ∷ []
 words_of (Conflicts file path) = codes "conflicts" ∷ file.now ∷ path.now ∷ []
 words_of (Diff file other) = codes "diff" ∷ file.now ∷ other.now ∷ []
+words_of (Watch words) =
+    codes "watch" ∷ words.node.now ∷ words.path.now ∷ token_words (option_map (λ t. t.now) words.token_file)
 
 -- the words under these ids, where each has one
 abbrev pub words_under : List Text → List Row → Option (List Text)
@@ -200,6 +203,13 @@ sync_words_in rows =
     option_map (λ words. words ++ token_words (first_of (codes "TOKEN_FILE") rows))
     (words_under (codes "FILE" ∷ codes "ADDR" ∷ codes "TIMEOUT" ∷ []) rows)
 
+-- a node and a path, which is the root where none is given, and the token
+abbrev pub watch_words_in : List Row → Option (List Text)
+watch_words_in rows =
+    option_map (λ node. node ∷ unwrap_or (first_of (codes "PATH") rows) []
+    ∷ token_words (first_of (codes "TOKEN_FILE") rows))
+    (first_of (codes "NODE") rows)
+
 abbrev pub counter_words_in : List Row → Option (List Text)
 counter_words_in = words_under (codes "FILE" ∷ codes "KEY" ∷ codes "BY" ∷ [])
 
@@ -248,14 +258,16 @@ delta_words_behind name rows =
     else (if bytes_eq name (codes "check") then words_under (codes "QUESTION" ∷ codes "ANSWER" ∷ []) rows
     else edit_words_behind name rows))))
 
--- the words behind the name of a command that makes sessions, carries a delta, or edits a file's replica
+-- the words behind the name of a command that makes sessions, follows a node, carries a delta, or edits a file's
+-- replica
 abbrev pub session_words_behind : Text → List Row → Option (List Text)
 session_words_behind name rows =
     if bytes_eq name (codes "serve")
     then words_under (codes "FILE" ∷ codes "ADDR" ∷ codes "SESSIONS" ∷ codes "TIMEOUT" ∷ []) rows
     else (if bytes_eq name (codes "sync") then sync_words_in rows
+    else (if bytes_eq name (codes "watch") then watch_words_in rows
     else (if bytes_eq name (codes "pair") then words_under (codes "FILE" ∷ codes "PEER" ∷ []) rows
-    else delta_words_behind name rows))
+    else delta_words_behind name rows)))
 
 -- the words behind the name of a command that looks at documents, makes sessions, carries a delta or edits
 abbrev pub looking_words_behind : Text → List Row → Option (List Text)

@@ -57,7 +57,7 @@ abbrev pub value_or : Text → List Text → Text
 value_or default [] = default
 value_or default (value ∷ more) = value
 
--- a file and a path, which is the root where it is left out
+-- a file or a node, and a path, which is the root where it is left out
 abbrev pub part_words : List Text → List Text
 part_words [] = []
 part_words (file ∷ []) = file ∷ [] ∷ []
@@ -100,6 +100,14 @@ run_with = record {
       ∷ (peer_words (values (codes "--peer"))
       ++ (access_words (slice_get (values (codes "--token-file")) 0) (is_there (values (codes "--open")))
       ++ log_words (is_there (values (codes "--log"))))));
+}
+
+abbrev pub watch_with : WithOptions
+watch_with = record {
+  options = (codes "--token-file", one_value) ∷ [];
+  takes = λ n. n == 1 || n == 2;
+  words_for = λ given values.
+      Some (part_words given ++ token_words (slice_get (values (codes "--token-file")) 0));
 }
 
 -- `set` and `add`
@@ -159,6 +167,7 @@ with_options =
     ∷ (codes "sync", sync_with)
     ∷ (codes "serve", serve_with)
     ∷ (codes "run", run_with)
+    ∷ (codes "watch", watch_with)
     ∷ []
 
 -- the words and the options' values are typed so behind the command, and it takes so many words

@@ -33,6 +33,7 @@ use Rattle.rds_words.specs.declared.tasks.Task.TheVariants.{
   Serve,
   ShowPretty,
   Sync,
+  Watch,
 }
 use Rattle.rds_words.specs.declared.tasks.EditWords.{EditWords}
 use Rattle.rds_words.specs.declared.tasks.EditWords.TheVariants.{Set, Add, Del, Clear, ClearAll, Inc, Dec}
@@ -123,6 +124,9 @@ words_dashed (Run words) =
     ∷ (peer_words (map (λ p. p.now) words.peers.items)
     ++ (access_words (option_map (λ t. t.now) words.token_file) words.is_open
     ++ (log_words words.log ++ codes "--" ∷ words.file.now ∷ [])))
+words_dashed (Watch words) =
+    codes "watch" ∷ (token_words (option_map (λ t. t.now) words.token_file)
+    ++ codes "--" ∷ words.node.now ∷ words.path.now ∷ [])
 words_dashed task = dashes_in (words_of task)
 
 -- `set` and `add` alone can be told to write only what changes something
@@ -147,6 +151,7 @@ given_words (GetRaw file path which) = file.now ∷ path.now ∷ []
 given_words (ShowPretty file path) = file.now ∷ path.now ∷ []
 given_words (Sync words) = words.file.now ∷ words.addr.now ∷ words.timeout.now ∷ []
 given_words (Run words) = words.file.now ∷ words.http.now ∷ words.every.now ∷ []
+given_words (Watch words) = words.node.now ∷ words.path.now ∷ []
 given_words task = drop 1 (words_of task)
 
 -- the words behind the command are data

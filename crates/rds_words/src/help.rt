@@ -28,6 +28,7 @@ pub enum Page {
     Check,
     Conflicts,
     Diff,
+    Watch,
     Join,
     Sim,
     Files,
@@ -68,6 +69,7 @@ impl Page {
             Page::Check => CHECK_EXAMPLE,
             Page::Conflicts => CONFLICTS_EXAMPLE,
             Page::Diff => DIFF_EXAMPLE,
+            Page::Watch => WATCH_EXAMPLE,
             Page::Join => JOIN_EXAMPLE,
             Page::Sim => SIM_EXAMPLE,
             Page::Files | Page::Faults => "",
@@ -102,6 +104,7 @@ impl Page {
             Page::Check => CHECK_TEXT,
             Page::Conflicts => CONFLICTS_TEXT,
             Page::Diff => DIFF_TEXT,
+            Page::Watch => WATCH_TEXT,
             Page::Join => JOIN_TEXT,
             Page::Sim => SIM_TEXT,
             Page::Files => FILES_TEXT,
@@ -120,7 +123,7 @@ Commands, by what they are for:
   documents  init, grow, set, add, del, clear, inc, dec, edit, get, show, dump, compact
   meeting    pair, sync, serve, ask, answer, take, merge
   serving    run
-  looking    status, check, conflicts, diff
+  looking    status, check, conflicts, diff, watch
   machines   join, sim
 'rds_node COMMAND --help' has an example of each, and what is peculiar to it.
 'rds_node help files' tells how files are read and written, and what PATH and VALUE are.
@@ -467,7 +470,7 @@ free one, will do. Requests, with the commands that print what they are answered
   GET /conflicts/PATH   conflicts
   GET /status           status
   GET /metrics          what was counted, for Prometheus
-  GET /live             a WebSocket, told {\"turn\":N,\"mark\":M,\"paths\":[..]} after changes
+  GET /live             watch: a WebSocket, told {\"turn\":N,\"mark\":M,\"paths\":[..]} of changes
   GET /ask              ask
   GET /snapshot         a file of the replica, from which 'init --from' makes the next one
   POST /edits           edit; the body has its lines
@@ -534,6 +537,19 @@ const DIFF_TEXT: &str = "\
 Output: a line for each thing that one of the two documents shows and the other doesn't.
 Neither file is written.
 Exit status: 0 where there is none, 3 where there are some.";
+
+pub const WATCH_ABOUT: &str = "Prints the changes of a node as they come";
+
+const WATCH_EXAMPLE: &str = "\
+Example: rds_node watch http://127.0.0.1:7780 shopping";
+
+const WATCH_TEXT: &str = "\
+Follows a node that runs ('run') until it is stopped. Output: a line after each turn in
+which the node's document changed, {\"turn\":2,\"mark\":\"3923..\",\"paths\":[\"shopping/fruit\"]}:
+the turn, the mark of the state, and the paths of what changed; null for them stands for
+any. With PATH only lines with a path that is PATH, lies below it or above it.
+Faults of its own: 23 where the node ends, 24 where it is silent for 60 seconds, 27 where
+NODE is no address of a node, 3 and 4 for a bad PATH.";
 
 pub const JOIN_ABOUT: &str = "Joins two snapshots of one group into one";
 
@@ -644,3 +660,5 @@ pub const ANSWER_HELP: &str = "The file of the answer, or '-' for standard input
 pub const FROM_HELP: &str = "The file that is joined into FILE";
 
 pub const OTHER_HELP: &str = "The file of the other document";
+
+pub const NODE_HELP: &str = "The address of a node, as http://127.0.0.1:7780";

@@ -3,7 +3,13 @@ ghost use Rattle.std.specs.Prelude.{[], ◌∷◌, codes};
 ghost use Rattle.clap.specs.Words.{Text};
 ghost use Rattle.rds_words.specs.declared.tasks.Task.{Task};
 ghost use Rattle.rds_words.specs.Entered.{Names};
-ghost use Rattle.rds_words.specs.LeftOut.{RunMayLackWords, ServeMayLackWords, ShowMayLackWords, SyncMayLackWords};
+ghost use Rattle.rds_words.specs.LeftOut.{
+  RunMayLackWords,
+  ServeMayLackWords,
+  ShowMayLackWords,
+  SyncMayLackWords,
+  WatchMayLackWords,
+};
 ghost use Rattle.rds_words.specs.Spelling.{
   OtherCommandsAreRefused,
   OtherWordsAreRefused,
@@ -33,6 +39,7 @@ pub fn word_laws()
     ensures serve { ServeMayLackWords }
     ensures sync { SyncMayLackWords }
     ensures run { RunMayLackWords }
+    ensures watch { WatchMayLackWords }
 {}
 
 /// Of a command without options: what stands behind it names a task just where it is spelled so, the task's words in

@@ -15,5 +15,5 @@ pub use laws::{word_laws, words_mean_their_spelling};
 pub use meaning::{amount_of, command_of, interval_of, names_in, roster_in};
 pub use tasks::{
     EditWords, GrowWords, InitFromWords, InitWords, RawKind, RunWords, ServeWords, SyncWords, Task,
-    ValueWord, task_of,
+    ValueWord, WatchWords, task_of,
 };

@@ -25,6 +25,7 @@ ghost use Rattle.rds_words.specs.Task.{
   show_words_in,
   sync_words_in,
   value_words,
+  watch_words_in,
   words_in,
   words_of,
   words_under,
@@ -32,7 +33,7 @@ ghost use Rattle.rds_words.specs.Task.{
 
 use crate::tasks::{
     EditWords, GrowWords, InitFromWords, InitWords, RawKind, RunWords, ServeWords, SyncWords, Task,
-    ValueWord,
+    ValueWord, WatchWords,
 };
 use clap::ArgMatches;
 use std::alloc::{AllocError, Global};
@@ -135,7 +136,7 @@ fn looking_task<'a>(name: &str, inner: &ArgMatches<'a>) -> Option<Task<'a>>
     }
 }
 
-// The task of a command that makes sessions, carries a delta, or edits the replica in a file.
+// The task of a command that makes sessions, follows a node, carries a delta, or edits the replica in a file.
 fn session_task<'a>(name: &str, inner: &ArgMatches<'a>) -> Option<Task<'a>>
     ensures { option_map words_of result
         ≡ named_words name.now (session_words_behind name.now (rows_of (found_of inner.now))) }
@@ -153,6 +154,7 @@ fn session_task<'a>(name: &str, inner: &ArgMatches<'a>) -> Option<Task<'a>>
             }))
         }
         "sync" => sync_task(inner),
+        "watch" => watch_task(inner),
         "pair" => {
             let (first, second) = two_words(inner, "FILE", "PEER")?;
             Some(Task::Pair { first, second })
@@ -172,6 +174,21 @@ fn sync_task<'a>(inner: &ArgMatches<'a>) -> Option<Task<'a>>
         addr,
         timeout,
         token_file: word_under(inner, "TOKEN_FILE"),
+    }))
+}
+
+// The task of `watch`.
+fn watch_task<'a>(inner: &ArgMatches<'a>) -> Option<Task<'a>>
+    ensures { option_map words_of result
+        ≡ named_words (codes "watch") (watch_words_in (rows_of (found_of inner.now))) }
+{
+    let node = word_under(inner, "NODE")?;
+    let part = word_under(inner, "PATH").unwrap_or("");
+    let token = word_under(inner, "TOKEN_FILE");
+    Some(Task::Watch(WatchWords {
+        node,
+        path: part,
+        token_file: token,
     }))
 }
 

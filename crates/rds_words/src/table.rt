@@ -197,7 +197,7 @@ const TOKEN_FILE: Word = Word {
     },
 };
 
-// The same of `sync`, which shows it.
+// The same of `sync` and `watch`, which show it.
 const NODE_TOKEN_FILE: Word = Word {
     id: "TOKEN_FILE",
     help: help::NODE_TOKEN_FILE_HELP,
@@ -297,9 +297,15 @@ const PEER: Word = Word {
     kind: Kind::Required,
 };
 
+const NODE: Word = Word {
+    id: "NODE",
+    help: help::NODE_HELP,
+    kind: Kind::Required,
+};
+
 /// The commands, in the order in which help lists them: documents, meeting, serving, looking, machines. The topics of
 /// `help` stand last, and in no list.
-pub static COMMANDS: [Described; 29] = [
+pub static COMMANDS: [Described; 30] = [
     Described {
         name: "init",
         about: help::INIT_ABOUT,
@@ -449,6 +455,12 @@ pub static COMMANDS: [Described; 29] = [
         about: help::DIFF_ABOUT,
         page: Page::Diff,
         words: &[FILE, OTHER],
+    },
+    Described {
+        name: "watch",
+        about: help::WATCH_ABOUT,
+        page: Page::Watch,
+        words: &[NODE, OPTIONAL_PATH, NODE_TOKEN_FILE],
     },
     Described {
         name: "join",

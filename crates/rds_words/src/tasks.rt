@@ -155,6 +155,8 @@ pub enum Task<'a> {
         /// The other.
         other: &'a str,
     },
+    /// Prints the changes of a node as they come.
+    Watch(WatchWords<'a>),
 }
 
 /// Which values are printed.
@@ -244,6 +246,17 @@ pub struct SyncWords<'a> {
     pub addr: &'a str,
     /// After how many seconds a silent peer is given up, 0 for never.
     pub timeout: &'a str,
+    /// The file of the token that the node asks for, where one is.
+    pub token_file: Option<&'a str>,
+}
+
+/// A node whose changes are followed, in words.
+#[derive(Clone, Copy, Debug)]
+pub struct WatchWords<'a> {
+    /// The node's address, as `http://HOST:PORT`.
+    pub node: &'a str,
+    /// The path of the part whose changes are printed, empty for the root.
+    pub path: &'a str,
     /// The file of the token that the node asks for, where one is.
     pub token_file: Option<&'a str>,
 }

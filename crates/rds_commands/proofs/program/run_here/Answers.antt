@@ -80,3 +80,6 @@ returns-in-Diff-clause-written g c = rw c.in-Diff.is c.run_diff.ensures.written
 
 pub returns-in-Faults-clause-written : goal.returns-in-Faults-clause-written
 returns-in-Faults-clause-written g c = rw c.in-Faults.is c.run_text-in-Faults.ensures.written
+
+pub returns-in-Watch-clause-written : goal.returns-in-Watch-clause-written
+returns-in-Watch-clause-written g c = rw c.in-Watch.is c.run_watch.ensures.written

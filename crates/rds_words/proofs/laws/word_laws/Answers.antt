@@ -1,5 +1,5 @@
-use Rattle.rds_words.proofs.EachNamed.{once_served, pretty_root_dashed, root_shown, run_alone, run_alone_dashed, sessions_alone_dashed, sync_alone, sync_alone_dashed, task_dashed, task_written, timeout_alone_dashed}
-use Rattle.rds_words.proofs.OptionsNamed.{all_cleared_behind, pretty_behind, pretty_root, pretty_root_behind, run_every_alone, run_log_alone, run_open_alone, run_peer_alone, run_token_alone, sessions_alone, sync_token_alone, timeout_alone}
+use Rattle.rds_words.proofs.EachNamed.{once_served, pretty_root_dashed, root_shown, run_alone, run_alone_dashed, sessions_alone_dashed, sync_alone, sync_alone_dashed, task_dashed, task_written, timeout_alone_dashed, watch_root, watch_root_dashed}
+use Rattle.rds_words.proofs.OptionsNamed.{all_cleared_behind, pretty_behind, pretty_root, pretty_root_behind, run_every_alone, run_log_alone, run_open_alone, run_peer_alone, run_token_alone, sessions_alone, sync_token_alone, timeout_alone, watch_token_alone, watch_token_behind}
 use Rattle.rds_words.proofs.laws.word_laws.Goals as goal
 
 pub returns-clause-written : goal.returns-clause-written
@@ -41,4 +41,12 @@ returns-clause-run c = record {
   open_alone = run_open_alone;
   log_alone = run_log_alone;
   token_alone = run_token_alone;
+}
+
+pub returns-clause-watch : goal.returns-clause-watch
+returns-clause-watch c = record {
+  alone = watch_root;
+  alone_dashed = watch_root_dashed;
+  token_alone = watch_token_alone;
+  token_behind = watch_token_behind;
 }
