@@ -3,8 +3,10 @@ import base64
 import hashlib
 import os
 import re
+import socket
 import struct
 import subprocess
+import threading
 
 from node_fakes import Fake, asked as first_line, response, says
 from node_visits import at, nodes_of
@@ -57,7 +59,7 @@ class Following:
 
 def listen(node, count):
     """Waits until so many listen to a node."""
-    soon(lambda: node.count("rds_listeners") == count, lambda: f"{node.count('rds_listeners')} of {count} listen")
+    soon(lambda: node.count("rds_listeners") == count, lambda: f"{node.count('rds_listeners')} of {count} listen", LIMIT)
 
 
 def try_lines(asked, folder):
@@ -198,7 +200,9 @@ FAKES = [
 def try_none(asked, folder):
     """What is no node, or breaks the protocol, and one that says nothing any more."""
     node = nodes_of(asked, folder, "a")[0]
-    with Fake(hands_over(sent(NEWS))) as silent, Following(node, at(silent.port)) as still:
+    # A fake of node_fakes.py ends a connection sooner.
+    with socket.create_server((HOST, 0)) as silent, Following(node, at(silent.getsockname()[1])) as still:
+        threading.Thread(target=lambda: hands_over(sent(NEWS))(silent.accept()[0]), daemon=True).start()
         for act, due, note in FAKES:
             with Fake(act) as fake, Following(node, at(fake.port)) as watch:
                 watch.comes_to(due, note)
