@@ -49,7 +49,7 @@ fn titled_command<'a>(alloc: Global, described: &Described) -> Command<'a>
     ensures app { app_of result ≡ new_app described.now.name.now }
     ensures local { (out-Command result).has_globals ≡ false }
 {
-    let command = Command::new(alloc, described.name).about(described.about);
+    let command = Command::new(alloc, described.name).about(described.page.about());
     let text = described.page.text();
     if described.page.is_topic() {
         return command.hide(true).override_help(text);

@@ -41,6 +41,42 @@ impl Page {
         matches!(self, Page::Files | Page::Faults)
     }
 
+    /// What the command does, in a few words.
+    pub fn about(self) -> &'static str {
+        match self {
+            Page::Init => INIT_ABOUT,
+            Page::Grow => GROW_ABOUT,
+            Page::Set => SET_ABOUT,
+            Page::Add => ADD_ABOUT,
+            Page::Del => DEL_ABOUT,
+            Page::Clear => CLEAR_ABOUT,
+            Page::Inc => INC_ABOUT,
+            Page::Dec => DEC_ABOUT,
+            Page::Edit => EDIT_ABOUT,
+            Page::Get => GET_ABOUT,
+            Page::Show => SHOW_ABOUT,
+            Page::Dump => DUMP_ABOUT,
+            Page::Compact => COMPACT_ABOUT,
+            Page::Pair => PAIR_ABOUT,
+            Page::Sync => SYNC_ABOUT,
+            Page::Serve => SERVE_ABOUT,
+            Page::Ask => ASK_ABOUT,
+            Page::Answer => ANSWER_ABOUT,
+            Page::Take => TAKE_ABOUT,
+            Page::Merge => MERGE_ABOUT,
+            Page::Run => RUN_ABOUT,
+            Page::Status => STATUS_ABOUT,
+            Page::Check => CHECK_ABOUT,
+            Page::Conflicts => CONFLICTS_ABOUT,
+            Page::Diff => DIFF_ABOUT,
+            Page::Watch => WATCH_ABOUT,
+            Page::Join => JOIN_ABOUT,
+            Page::Sim => SIM_ABOUT,
+            Page::Files => FILES_ABOUT,
+            Page::Faults => FAULTS_ABOUT,
+        }
+    }
+
     /// How the command is called, which stands first. A topic has none.
     pub fn example(self) -> &'static str {
         match self {
@@ -131,7 +167,7 @@ Commands, by what they are for:
 
 Example: rds_node init notes.a notes a a b; rds_node set notes.a title --text Shopping";
 
-pub const FILES_ABOUT: &str = "Tells how files are read and written";
+const FILES_ABOUT: &str = "Tells how files are read and written";
 
 /// What `help files` prints.
 pub const FILES_TEXT: &str = "\
@@ -173,7 +209,7 @@ Example: rds_node set notes.a shopping/shelf -- -3
          rds_node get http://127.0.0.1:7780 shopping/shelf
 ";
 
-pub const FAULTS_ABOUT: &str = "Tells what the faults are";
+const FAULTS_ABOUT: &str = "Tells what the faults are";
 
 /// What `help faults` prints.
 pub const FAULTS_TEXT: &str = "\
@@ -217,7 +253,7 @@ Exit status: 0 where the command succeeded, 1 where it answered a fault, 2 for f
 Example: rds_node get --raw notes.a title || echo status $?
 ";
 
-pub const INIT_ABOUT: &str = "Makes a file that holds an empty replica, or the next one of a group";
+const INIT_ABOUT: &str = "Makes a file that holds an empty replica, or the next one of a group";
 
 const INIT_EXAMPLE: &str = "\
 Example: rds_node init notes.a notes a a b c
@@ -228,7 +264,7 @@ FILE must not be there. With --from two words stand, the new file and its own na
 names and all that was seen come from the other file. Output: {\"ok\":true}.
 Faults of its own: 21 where OWN is used, 26 where it is none of NAMES, 27 for such a FILE.";
 
-pub const GROW_ABOUT: &str = "Adds replicas to the group of the replica in a file";
+const GROW_ABOUT: &str = "Adds replicas to the group of the replica in a file";
 
 const GROW_EXAMPLE: &str = "\
 Example: rds_node grow notes.a d e";
@@ -241,7 +277,7 @@ meet any more, fault 20.
 Output: {\"ok\":true}.
 Faults of its own: 2 for a bad name, 6 for one that is there, stands twice or is too many.";
 
-pub const SET_ABOUT: &str = "Writes a register of the replica in a file";
+const SET_ABOUT: &str = "Writes a register of the replica in a file";
 
 const SET_EXAMPLE: &str = "\
 Example: rds_node set notes.a title '\"Shopping\"'
@@ -252,7 +288,7 @@ What stood at PATH is taken away. A VALUE below 0 stands behind two dashes: -- -
 Output: {\"dot\":[\"a\",1],\"killed\":0}: the new entry's name, and how many were taken away;
 {\"dot\":null,\"killed\":0} where nothing was written. 'help faults' has 3 to 5, 7 and 25.";
 
-pub const ADD_ABOUT: &str = "Adds an element to a set of the replica in a file";
+const ADD_ABOUT: &str = "Adds an element to a set of the replica in a file";
 
 const ADD_EXAMPLE: &str = "\
 Example: rds_node add notes.a shopping/fruit '\"apple\"'
@@ -263,7 +299,7 @@ Adds VALUE to the set at PATH. A VALUE below 0 stands behind two dashes: -- -3.
 Output: {\"dot\":[\"a\",1],\"killed\":0}: the new entry's name, and how many were taken away;
 {\"dot\":null,\"killed\":0} where nothing was written. 'help faults' has 3 to 5, 7 and 25.";
 
-pub const DEL_ABOUT: &str = "Deletes an element of a set of the replica in a file";
+const DEL_ABOUT: &str = "Deletes an element of a set of the replica in a file";
 
 const DEL_EXAMPLE: &str = "\
 Example: rds_node del notes.a shopping/fruit '\"apple\"'
@@ -274,7 +310,7 @@ Deletes VALUE from the set at PATH. A VALUE below 0 stands behind two dashes: --
 Output: {\"dot\":null,\"killed\":1}, with the number of entries taken away.
 Faults of its own: 3 and 4 for a bad PATH, 25 and 5 for a bad VALUE.";
 
-pub const CLEAR_ABOUT: &str = "Empties a part of the replica in a file";
+const CLEAR_ABOUT: &str = "Empties a part of the replica in a file";
 
 const CLEAR_EXAMPLE: &str = "\
 Example: rds_node clear notes.a shopping
@@ -286,7 +322,7 @@ whole document. Counters stay.
 Output: {\"dot\":null,\"killed\":2}, with the number of entries taken away.
 Faults of its own: 3 and 4 for a bad PATH, as an empty one.";
 
-pub const INC_ABOUT: &str = "Raises a counter of the replica in a file";
+const INC_ABOUT: &str = "Raises a counter of the replica in a file";
 
 const INC_EXAMPLE: &str = "\
 Example: rds_node inc notes.a visits 1";
@@ -296,7 +332,7 @@ Raises the counter KEY by BY. To count the other way, use 'dec': BY is never bel
 Output: {\"dot\":null,\"killed\":0}.
 Faults of its own: 27 for a bad BY, 3 for a bad KEY, 8 where it would pass its limit.";
 
-pub const DEC_ABOUT: &str = "Lowers a counter of the replica in a file";
+const DEC_ABOUT: &str = "Lowers a counter of the replica in a file";
 
 const DEC_EXAMPLE: &str = "\
 Example: rds_node dec notes.a stock 3";
@@ -306,7 +342,7 @@ Lowers the counter KEY by BY. To count the other way, use 'inc': BY is never bel
 Output: {\"dot\":null,\"killed\":0}.
 Faults of its own: 27 for a bad BY, 3 for a bad KEY, 8 where it would pass its limit.";
 
-pub const EDIT_ABOUT: &str = "Edits the replica in a file as lines say";
+const EDIT_ABOUT: &str = "Edits the replica in a file as lines say";
 
 const EDIT_EXAMPLE: &str = "\
 Example: rds_node edit notes.a < lines";
@@ -321,7 +357,7 @@ line of JSON for each, {\"dot\":[\"a\",1],\"killed\":0} as for 'set'. A refused 
 Faults of its own: 15 where the input has more than 1,073,741,824 bytes, 24 where it
 can't be read.";
 
-pub const GET_ABOUT: &str = "Prints what stands at a path of the replica in a file";
+const GET_ABOUT: &str = "Prints what stands at a path of the replica in a file";
 
 const GET_EXAMPLE: &str = "\
 Example: rds_node get notes.a shopping/fruit
@@ -331,7 +367,7 @@ const GET_TEXT: &str = "\
 Output: {\"counter\":8,\"reg\":[3],\"set\":[\"red\"]}, or bare values, a line each. Status 3 where
 --raw finds nothing, fault 27 where it finds several kinds: then one option says which.";
 
-pub const SHOW_ABOUT: &str = "Prints the document of the replica in a file";
+const SHOW_ABOUT: &str = "Prints the document of the replica in a file";
 
 const SHOW_EXAMPLE: &str = "\
 Example: rds_node show notes.a shopping
@@ -342,7 +378,7 @@ Output: one line of JSON, the document below PATH, or all of it: {\"maps\":..,\"
 \"sets\":..}, each by key, with \"counters\" before them where there is no PATH.
 Faults of its own: 3 and 4 for a bad PATH.";
 
-pub const DUMP_ABOUT: &str = "Writes the lines that give the document of a file again";
+const DUMP_ABOUT: &str = "Writes the lines that give the document of a file again";
 
 const DUMP_EXAMPLE: &str = "\
 Example: rds_node dump notes.a > lines
@@ -354,7 +390,7 @@ all of it with its counters. Of a register with several values one line sets eac
 the last stands; a line on standard error says so before it.
 Faults of its own: 3 and 4 for a bad PATH.";
 
-pub const COMPACT_ABOUT: &str = "Writes the file of a replica anew, without records";
+const COMPACT_ABOUT: &str = "Writes the file of a replica anew, without records";
 
 const COMPACT_EXAMPLE: &str = "\
 Example: rds_node compact notes.a";
@@ -367,7 +403,7 @@ where it is read often and seldom changed, and for one that an older program wro
 without a checksum. 'status' tells how many bytes the records have.
 Output: {\"ok\":true}.";
 
-pub const PAIR_ABOUT: &str = "Has a session between the replicas in two files";
+const PAIR_ABOUT: &str = "Has a session between the replicas in two files";
 
 const PAIR_EXAMPLE: &str = "\
 Example: rds_node pair notes.a notes.b";
@@ -380,7 +416,7 @@ Output: {\"taken\":1} where FILE took a delta, with the number of its components
 fault of its session, if there was one. Then the same for PEER, and 28 where the two are
 forked. Faults of its own: 10, 11 and 19 to 21, see 'help faults'.";
 
-pub const SYNC_ABOUT: &str = "Has a session of the replica in a file with one that is served";
+const SYNC_ABOUT: &str = "Has a session of the replica in a file with one that is served";
 
 const SYNC_EXAMPLE: &str = "\
 Example: rds_node sync notes.b 127.0.0.1:4000
@@ -392,7 +428,7 @@ ADDR '-' a session is standard input and output, and told of on standard error, 
 carry it. Output: {\"taken\":1}, with how many components were taken into what FILE holds by
 then; and the fault, if there was one: 10 to 24, and 28 of a node, see 'help faults'.";
 
-pub const SERVE_ABOUT: &str = "Serves the replica in a file to peers";
+const SERVE_ABOUT: &str = "Serves the replica in a file to peers";
 
 const SERVE_EXAMPLE: &str = "\
 Example: rds_node serve notes.a 127.0.0.1:4000 --sessions 3
@@ -404,7 +440,7 @@ authenticated. Standard error says where it listens, so port 0, any free one, wi
 ADDR '-' is one session over standard input and output, and told of on standard error.
 Output after each session: {\"taken\":1} where a delta was taken, then the fault if any.";
 
-pub const ASK_ABOUT: &str = "Writes the question of the replica in a file";
+const ASK_ABOUT: &str = "Writes the question of the replica in a file";
 
 const ASK_EXAMPLE: &str = "\
 Example: rds_node ask notes.a > question";
@@ -415,7 +451,7 @@ what FILE has seen. FILE isn't written.
 The peer's 'answer' goes with the question into 'take':
   rds_node ask a > q; ssh there rds_node answer b < q > r; rds_node take a q r";
 
-pub const ANSWER_ABOUT: &str = "Reads a question, and writes the answer of the replica in a file";
+const ANSWER_ABOUT: &str = "Reads a question, and writes the answer of the replica in a file";
 
 const ANSWER_EXAMPLE: &str = "\
 Example: rds_node answer notes.b < question > answer";
@@ -427,7 +463,7 @@ certificate. FILE isn't written.
 Faults of its own: 12 to 15 for a question that is broken or none, 19 for one of another
 group, 20 for names that have grown apart, 21 where FILE's own replica asks.";
 
-pub const TAKE_ABOUT: &str = "Takes the answer to its question into a file";
+const TAKE_ABOUT: &str = "Takes the answer to its question into a file";
 
 const TAKE_EXAMPLE: &str = "\
 Example: rds_node take notes.a question answer
@@ -440,7 +476,7 @@ or 11. QUESTION or ANSWER may be '-'. Output: {\"taken\":1}, the number of compo
 28 where FILE now and who answered are forked. Faults of its own: 11 for an answer to
 another question, 17 for a certificate that doesn't hold, 12 to 15, 19 and 20.";
 
-pub const MERGE_ABOUT: &str = "Joins all that another file has seen into a file";
+const MERGE_ABOUT: &str = "Joins all that another file has seen into a file";
 
 const MERGE_EXAMPLE: &str = "\
 Example: rds_node merge notes.a stick/notes.b";
@@ -453,7 +489,7 @@ Faults of its own: 10 where FROM is a copy of the same replica and has more of i
 than FILE, 9 where the two have different entries for one dot, 19 for another group, 20
 for names that have grown apart.";
 
-pub const RUN_ABOUT: &str = "Serves the replica in a file to browsers and programs over HTTP";
+const RUN_ABOUT: &str = "Serves the replica in a file to browsers and programs over HTTP";
 
 const RUN_EXAMPLE: &str = "\
 Example: rds_node run notes.a
@@ -487,7 +523,7 @@ Bearer TOKEN' or the cookie: 16 to 128 of A-Z a-z 0-9 - . _ ~. Nothing is enciph
 With --log it prints of each request: CLIENT METHOD TARGET STATUS BYTES MICROSECONDS.
 Faults of its own: 24 where ADDR can't be used, or FILE is locked or can't be written.";
 
-pub const STATUS_ABOUT: &str = "Tells whose replica a file holds, and how much there is of it";
+const STATUS_ABOUT: &str = "Tells whose replica a file holds, and how much there is of it";
 
 const STATUS_EXAMPLE: &str = "\
 Example: rds_node status notes.a";
@@ -502,8 +538,7 @@ without the 69 of its checksum; how many the snapshot of FILE has, with its chec
 how many the records behind it; and the mark of its state.
 Files that hold the same have the same mark, and others have it by chance alone.";
 
-pub const CHECK_ABOUT: &str =
-    "Says whether the certificate of an answer holds, and prints its delta";
+const CHECK_ABOUT: &str = "Says whether the certificate of an answer holds, and prints its delta";
 
 const CHECK_EXAMPLE: &str = "\
 Example: rds_node check question answer";
@@ -517,7 +552,7 @@ QUESTION or ANSWER may be '-'. No file is written. Output: a line for each row, 
 Faults of its own: 17 where the certificate doesn't hold, 11 for an answer to another
 question, 12 to 15 for a broken text.";
 
-pub const CONFLICTS_ABOUT: &str = "Lists the registers with more than one value";
+const CONFLICTS_ABOUT: &str = "Lists the registers with more than one value";
 
 const CONFLICTS_EXAMPLE: &str = "\
 Example: rds_node conflicts notes.a";
@@ -528,7 +563,7 @@ its path. A 'set' there makes it one value again.
 Exit status: 0 where there is none, 3 where there are some.
 Faults of its own: 3 and 4 for a bad PATH.";
 
-pub const DIFF_ABOUT: &str = "Lists what one document shows and the other doesn't";
+const DIFF_ABOUT: &str = "Lists what one document shows and the other doesn't";
 
 const DIFF_EXAMPLE: &str = "\
 Example: rds_node diff notes.a notes.b";
@@ -538,7 +573,7 @@ Output: a line for each thing that one of the two documents shows and the other 
 Neither file is written.
 Exit status: 0 where there is none, 3 where there are some.";
 
-pub const WATCH_ABOUT: &str = "Prints the changes of a node as they come";
+const WATCH_ABOUT: &str = "Prints the changes of a node as they come";
 
 const WATCH_EXAMPLE: &str = "\
 Example: rds_node watch http://127.0.0.1:7780 shopping";
@@ -551,7 +586,7 @@ any. With PATH only lines with a path that is PATH, lies below it or above it.
 Faults of its own: 23 where the node ends, 24 where it is silent for 60 seconds, 27 where
 NODE is no address of a node, 3 and 4 for a bad PATH.";
 
-pub const JOIN_ABOUT: &str = "Joins two snapshots of one group into one";
+const JOIN_ABOUT: &str = "Joins two snapshots of one group into one";
 
 const JOIN_EXAMPLE: &str = "\
 Example: rds_node join < two_snapshots";
@@ -566,7 +601,7 @@ snapshot or the second line, 15 for a line or an answer that is too long, 19 for
 group, 20 where neither names begin the others, 9 where the two have different entries
 for one dot, 24 where the input can't be read.";
 
-pub const SIM_ABOUT: &str = "Answers lines about a group of replicas in memory";
+const SIM_ABOUT: &str = "Answers lines about a group of replicas in memory";
 
 const SIM_EXAMPLE: &str = "\
 Example: rds_node sim < lines";
