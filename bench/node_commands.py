@@ -5,8 +5,9 @@ import subprocess
 
 from node_fakes import Fake, by_target, response, says
 from node_visits import at, nodes_of
-from plain_model import SUM, State, begun, change_text, file_text, read_file, record
-from serving import HOST, LIMIT, TOKEN, running, want
+from plain_files import SUM, change_text, file_text, read_file, record
+from plain_model import State, begun
+from serving import LIMIT, TOKEN, running, want
 
 # Each is done on a file that nobody holds and at a node whose file is the same: words behind the program, with the
 # place of the file between them, and the input.

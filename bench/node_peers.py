@@ -11,7 +11,7 @@ import time
 
 from node_fakes import Fake, fakes_of
 from node_meetings import try_idle, try_one_sided, try_scattered, try_told_fork
-from serving import HOST, LIMIT, TOKEN, Node, Noted, Wrong, are_equal, at, drive, running, soon, want
+from serving import HOST, LIMIT, TOKEN, Node, Noted, Wrong, are_equal, at, drive, each_of, running, soon, want
 
 # An edit that is told at once may take so many seconds, and one for which a peer asks by itself every second.
 AT_ONCE = 1
@@ -449,10 +449,4 @@ PARTS += [try_unfound, try_wrong]
 
 
 def try_peers(asked, folder):
-    """Each part in a folder of its own. What isn't as due in one is noted, and the others are tried."""
-    noted, said = Noted(), []
-    for part in PARTS:
-        with noted:
-            said.append(part(asked, pathlib.Path(folder) / part.__name__))
-    noted.end()
-    return ";\n  ".join(said)
+    return each_of(PARTS, asked, folder)

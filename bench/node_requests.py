@@ -11,7 +11,9 @@ import struct
 import subprocess
 import time
 
-from plain_model import Replica, State, appended, change_text, edited, file_text, grown, mark_of, read_file, tag_of
+from plain_files import appended, change_text, file_text, read_file
+from plain_model import Replica, State, edited, grown, mark_of
+from plain_texts import tag_of
 from serving import HOST, LIMIT, NOBODY, TOKEN, UPGRADE, Node, Noted, killed, running, soon, want
 
 # A request, and below it the status, the kind of content and the body that are due. '|' ends a line of a body, and

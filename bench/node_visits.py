@@ -1,14 +1,11 @@
 """Files that meet a node, by `sync FILE http://HOST:PORT`: what goes over, who is refused, and what is wrong."""
-import contextlib
-import pathlib
 import shutil
-import signal
 import subprocess
 import time
 
-from node_fakes import Fake, by_target, fakes_of, response, says, silent
+from node_fakes import Fake, by_target, fakes_of, response, silent
 from node_meetings import Relay, answer_between, forked
-from serving import HOST, LIMIT, TOKEN, Node, Noted, running, want
+from serving import HOST, LIMIT, TOKEN, Node, Noted, each_of, running, want
 
 # A meeting with what is no node may take so many seconds, by --timeout 1.
 PATIENCE = 20
@@ -262,10 +259,4 @@ PARTS = [try_both_ways, try_tokens, try_words, try_strange, try_held, try_forks,
 
 
 def try_sync(asked, folder):
-    """Each part in a folder of its own. What isn't as due in one is noted, and the others are tried."""
-    noted, said = Noted(), []
-    for part in PARTS:
-        with noted:
-            said.append(part(asked, pathlib.Path(folder) / part.__name__))
-    noted.end()
-    return ";\n  ".join(said)
+    return each_of(PARTS, asked, folder)

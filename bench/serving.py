@@ -4,7 +4,6 @@ import collections
 import contextlib
 import hashlib
 import json
-import os
 import pathlib
 import random
 import re
@@ -59,6 +58,16 @@ class Noted:
 
     def end(self):
         want(not self.problems, "\n  ".join(self.problems))
+
+
+def each_of(parts, asked, folder):
+    """Tries each part in a folder of its own. What isn't as due in one is noted, and the others are tried."""
+    noted, said = Noted(), []
+    for part in parts:
+        with noted:
+            said.append(part(asked, pathlib.Path(folder) / part.__name__))
+    noted.end()
+    return ";\n  ".join(said)
 
 
 def soon(holds, otherwise, seconds=10, pause=0.05):

@@ -1,10 +1,11 @@
-"""The library beside the plain model of bench/plain_model.py, which is written from the documents alone.
+"""The library beside the plain model of bench/plain_*.py, which is written from the documents alone.
 
 Random edits and meetings have to leave the same file, question, answer, document and mark, byte by byte.
 """
-import importlib.util
+import importlib
 import json
 import random
+import sys
 from pathlib import Path
 from typing import Any, Callable, Dict, List, Tuple
 
@@ -12,13 +13,13 @@ import pytest
 
 from rds import Edited, RdsError, Replica, Scalar
 
-MODEL = Path(__file__).parents[3] / "bench" / "plain_model.py"
-if not MODEL.exists():
+BENCH = Path(__file__).parents[3] / "bench"
+if not (BENCH / "plain_model.py").exists():
     pytest.skip("the plain model isn't here", allow_module_level=True)
-_spec = importlib.util.spec_from_file_location("plain_model", MODEL)
-assert _spec is not None and _spec.loader is not None
-model: Any = importlib.util.module_from_spec(_spec)
-_spec.loader.exec_module(model)
+sys.path.append(str(BENCH))
+files: Any = importlib.import_module("plain_files")
+model: Any = importlib.import_module("plain_model")
+texts: Any = importlib.import_module("plain_texts")
 
 NAMES = ["a", "b", "c"]
 PATHS = ["k", "m/k", "m/n/k", "m", "ü", "m/n"]
@@ -77,7 +78,7 @@ class Both:
         self.plain = plain
 
     def check(self) -> None:
-        assert bytes(self.real) == model.file_text(self.plain)
+        assert bytes(self.real) == files.file_text(self.plain)
         assert self.real.show() == shown(model.document(self.plain.state, ()))
         assert self.real.mark() == model.mark_of(self.plain.state)
 
@@ -90,8 +91,8 @@ class Letter:
         self.question, self.answer = asker.real.ask(), other.real.answer(asker.real.ask())
         self.delta = other.plain.state.least(self.asked.state.digest())
         self.names = model.longer(self.asked.names, other.plain.names)
-        assert self.question == model.question_text(self.asked)
-        assert self.answer == model.response_text(other.plain, self.asked)
+        assert self.question == texts.question_text(self.asked)
+        assert self.answer == texts.response_text(other.plain, self.asked)
 
     def take(self) -> None:
         self.asker.plain = model.taken_by_text(self.asker.plain, self.asked, self.delta, self.names)
@@ -102,7 +103,7 @@ def merge(one: Both, other: Both) -> None:
     lacking = other.plain.state.least(one.plain.state.digest()).size()
     one.plain = model.taken(one.plain, other.plain.state, other.plain.names)
     # A snapshot alone is a file of an older program.
-    given = bytes(other.real)[: None if lacking % 2 else -model.SUM]
+    given = bytes(other.real)[: None if lacking % 2 else -files.SUM]
     assert one.real.merge(given) == lacking
 
 
@@ -145,6 +146,6 @@ def test_a_status_counts_what_the_model_has() -> None:
     assert status.live == len(both.plain.state.live()) and status.live + status.dead == len(lives)
     assert status.counters == len({key for key, _ in numbers})
     assert status.components == both.plain.state.size()
-    assert status.bytes == len(model.snapshot_text(both.plain))
+    assert status.bytes == len(texts.snapshot_text(both.plain))
     assert status.mark == model.mark_of(both.plain.state)
     assert json.dumps(both.real.show())
