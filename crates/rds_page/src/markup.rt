@@ -40,7 +40,7 @@ macro_rules! with_markup {
 <p id="forked" class="notice" hidden></p>
 <p id="apart" class="notice" hidden></p>
 <p id="behind" class="notice" hidden>The node's file is older than what its replica has sent, as a backup is.
-It takes no edits until it is joined with a peer's.</p>
+It takes no edits: docs/FAULTS.md, 'Back to a backup', tells how to go on.</p>
 <form id="login" hidden>
 <h2>This node asks for a token</h2>
 <p><input id="token" type="password" aria-label="Token" placeholder="Token" autocomplete="current-password" required>

@@ -56,7 +56,7 @@ pub fn refuse_edit(response: &mut Response) -> Result<(), AllocError>
 
 /// Tells on standard error, in a line, that edits of this file are refused from here on, and what to do.
 pub fn tell_behind<H: Eprint>(rt: &H, file: &str) {
-    let due = "stop the node, and join the file with a copy of the peer's (docs/FAULTS.md)";
+    let due = "stop the node, and go on under a new name (docs/FAULTS.md, 'Back to a backup')";
     let _ = eprintln!(rt;
         "{file}: is older than what its replica has sent, and edits are refused from here on: {due}"
     );

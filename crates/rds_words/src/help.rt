@@ -197,8 +197,9 @@ up to twice FILE's length, and then tries again. It refuses edits and ends where
 moved or another was put there, and makes anew one that was removed.
 
 Copies: a name is used at one file alone. A copy is for reading, for a backup, or for
-'merge'; never edit one beside the original. To edit at a second place make the next
-replica, by 'init NEW --from FILE OWN'.
+'merge'; never edit one beside the original, nor go on with a backup under its name
+(docs/FAULTS.md, 'Back to a backup'). To edit at a second place make the next replica,
+by 'init NEW --from FILE OWN'.
 
 Words: PATH is 1 to 8 keys with '/' between them, and a key 1 to 64 bytes without '/'.
 VALUE is JSON: null, true, false, a whole number of 64 bits, or a text of at most 1,024
@@ -354,6 +355,7 @@ Input: lines, each one JSON array of at most 65,536 bytes; empty lines are skipp
 Edits FILE by one line after the other, and writes once. Output, once that is written: a
 line of JSON for each, {\"dot\":[\"a\",1],\"killed\":0} as for 'set'. A refused one is answered
 {\"fault\":3,\"name\":\"BadKey\",\"line\":2} and changes nothing; the others stand, status 1.
+An empty PATH of \"clear\" takes away all entries of the document.
 Faults of its own: 15 where the input has more than 1,073,741,824 bytes, 24 where it
 can't be read.";
 
@@ -382,12 +384,13 @@ const DUMP_ABOUT: &str = "Writes the lines that give the document of a file agai
 
 const DUMP_EXAMPLE: &str = "\
 Example: rds_node dump notes.a > lines
-         rds_node edit copy.a < lines";
+         rds_node edit other.a < lines";
 
 const DUMP_TEXT: &str = "\
-Output: the lines that 'edit' reads, which give the same document: that below PATH, or
-all of it with its counters. Of a register with several values one line sets each, so
-the last stands; a line on standard error says so before it.
+Output: the lines that 'edit' reads, which give an empty file the same document: that
+below PATH, or all of it with its counters, which count once more where they are there.
+Of a register with several values one line sets each, so the last stands; a line on
+standard error says so before it.
 Faults of its own: 3 and 4 for a bad PATH.";
 
 const COMPACT_ABOUT: &str = "Writes the file of a replica anew, without records";
@@ -472,9 +475,10 @@ Example: rds_node take notes.a question answer
 const TAKE_TEXT: &str = "\
 Checks the answer against the question, as a session would, and takes it into FILE. The
 question has to be FILE's own, and FILE to hold all that it had then, else ask anew: 10
-or 11. QUESTION or ANSWER may be '-'. Output: {\"taken\":1}, the number of components, and
-28 where FILE now and who answered are forked. Faults of its own: 11 for an answer to
-another question, 17 for a certificate that doesn't hold, 12 to 15, 19 and 20.";
+or 11. QUESTION or ANSWER may be '-'. Output: {\"taken\":1}, how many components the answer
+has, also where FILE has them, and 28 where FILE now and who answered are forked. Faults
+of its own: 11 for an answer to another question, 17 for a certificate that doesn't hold,
+12 to 15, 19 and 20.";
 
 const MERGE_ABOUT: &str = "Joins all that another file has seen into a file";
 
@@ -504,7 +508,7 @@ free one, will do. Requests, with the commands that print what they are answered
   GET /doc/PATH         show; at /here/PATH each map below PATH is shown empty
   GET /value/PATH       get
   GET /conflicts/PATH   conflicts
-  GET /status           status
+  GET /status           status, and how the peers stand
   GET /metrics          what was counted, for Prometheus
   GET /live             watch: a WebSocket, told {\"turn\":N,\"mark\":M,\"paths\":[..]} of changes
   GET /ask              ask
@@ -514,13 +518,15 @@ free one, will do. Requests, with the commands that print what they are answered
   POST /take            take; the body: the question's length in 4 bytes, question, answer
   POST /grow            grow; the body is one name
   POST /login           a cookie for the token that the body is
-Answers on the document have an ETag; where If-None-Match has it, 304 is the answer.
+Answers on the document have an ETag; where If-None-Match has it, 304 is the answer, and
+412 to a POST of edits or grow.
 With --peer it meets that node, of another replica, after each change here and every
 SECONDS: each takes what it lacks. Peers share one token, and are shown that of the file.
 Without options this machine alone may come, by 127.0.0.1 or [::1]; another ADDR is fault
 27. With --token-file all but the page and /login ask for the token, 'Authorization:
 Bearer TOKEN' or the cookie: 16 to 128 of A-Z a-z 0-9 - . _ ~. Nothing is enciphered.
-With --log it prints of each request: CLIENT METHOD TARGET STATUS BYTES MICROSECONDS.
+With --log it prints of each whole request, with the bytes of its answer, arrived or not:
+CLIENT METHOD TARGET STATUS BYTES MICROSECONDS.
 Faults of its own: 24 where ADDR can't be used, or FILE is locked or can't be written.";
 
 const STATUS_ABOUT: &str = "Tells whose replica a file holds, and how much there is of it";
@@ -682,7 +688,7 @@ pub const NODE_TOKEN_FILE_HELP: &str = "The file of the token that a node asks f
 
 pub const OPEN_HELP: &str = "Other machines may come, also where there is no token";
 
-pub const LOG_HELP: &str = "Prints one line for each request";
+pub const LOG_HELP: &str = "Prints a line for each whole request";
 
 pub const PRETTY_HELP: &str = "Prints the JSON on many lines, indented";
 
