@@ -29,5 +29,4 @@ pub mod Refusing
 pub mod RowsById
 pub mod RuleFacts
 pub mod Splitting
-pub mod TableMeant
 pub mod WatchPlan

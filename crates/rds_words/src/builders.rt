@@ -11,6 +11,7 @@ use clap::{Arg, ArgAction, Command};
 use std::alloc::{AllocError, Global};
 
 /// The program and its commands.
+#[tactic(auto, unfolding(crate::specs::Commands::node_app))]
 pub fn node_command<'a>(alloc: Global) -> Result<Command<'a>, AllocError>
     ensures { IfOk result (λ c. app_of c ≡ node_app) }
 {
