@@ -370,9 +370,9 @@ def judge_tags(node):
             answer = asked("GET", target, None, f"If-None-Match: {tag}")
             with noted:
                 want(answer.status == 200, f"GET {target} with a tag is answered {answer}")
-        answer = asked("POST", "/edits", b'["set","tagged",1]\n', "If-None-Match: *")
+        answer = asked("POST", "/edits", b'["set","tagged",1]\n', f"If-None-Match: {old}")
         with noted:
-            want(answer.status == 200 and b"dot" in answer.body, f"an edit with * is answered {answer}")
+            want(answer.status == 200 and b"dot" in answer.body, f"an edit with another tag is answered {answer}")
         answer = asked("GET", "/doc", None, f"If-None-Match: {tag}")
         with noted:
             want(answer.status == 200 and answer.headers["etag"] != tag, f"after an edit a tag is answered {answer}")

@@ -356,8 +356,7 @@ Edits FILE by one line after the other, and writes once. Output, once that is wr
 line of JSON for each, {\"dot\":[\"a\",1],\"killed\":0} as for 'set'. A refused one is answered
 {\"fault\":3,\"name\":\"BadKey\",\"line\":2} and changes nothing; the others stand, status 1.
 An empty PATH of \"clear\" takes away all entries of the document.
-Faults of its own: 15 where the input has more than 1,073,741,824 bytes, 24 where it
-can't be read.";
+Faults of its own: 15 for more than 1,073,741,824 bytes of input, 24 for a failed read.";
 
 const GET_ABOUT: &str = "Prints what stands at a path of the replica in a file";
 
@@ -475,10 +474,9 @@ Example: rds_node take notes.a question answer
 const TAKE_TEXT: &str = "\
 Checks the answer against the question, as a session would, and takes it into FILE. The
 question has to be FILE's own, and FILE to hold all that it had then, else ask anew: 10
-or 11. QUESTION or ANSWER may be '-'. Output: {\"taken\":1}, how many components the answer
-has, also where FILE has them, and 28 where FILE now and who answered are forked. Faults
-of its own: 11 for an answer to another question, 17 for a certificate that doesn't hold,
-12 to 15, 19 and 20.";
+or 11. QUESTION or ANSWER may be '-'. Output: {\"taken\":1}, the components of the answer,
+also those that FILE has; 28 where FILE now and who answered are forked. Faults of its
+own: 11 for another question's answer, 17 for a bad certificate, 12 to 15, 19 and 20.";
 
 const MERGE_ABOUT: &str = "Joins all that another file has seen into a file";
 
@@ -518,15 +516,13 @@ free one, will do. Requests, with the commands that print what they are answered
   POST /take            take; the body: the question's length in 4 bytes, question, answer
   POST /grow            grow; the body is one name
   POST /login           a cookie for the token that the body is
-Answers on the document have an ETag; where If-None-Match has it, 304 is the answer, and
-412 to a POST of edits or grow.
+Answers on the document have an ETag: If-None-Match and If-Match are heeded (304, 412).
 With --peer it meets that node, of another replica, after each change here and every
 SECONDS: each takes what it lacks. Peers share one token, and are shown that of the file.
 Without options this machine alone may come, by 127.0.0.1 or [::1]; another ADDR is fault
 27. With --token-file all but the page and /login ask for the token, 'Authorization:
 Bearer TOKEN' or the cookie: 16 to 128 of A-Z a-z 0-9 - . _ ~. Nothing is enciphered.
-With --log it prints of each whole request, with the bytes of its answer, arrived or not:
-CLIENT METHOD TARGET STATUS BYTES MICROSECONDS.
+With --log it prints of whole requests: CLIENT METHOD TARGET STATUS BYTES MICROSECONDS.
 Faults of its own: 24 where ADDR can't be used, or FILE is locked or can't be written.";
 
 const STATUS_ABOUT: &str = "Tells whose replica a file holds, and how much there is of it";
