@@ -217,8 +217,8 @@ def judge_heads(node):
     want("default-src 'none'" in policy, f"the page has the policy {policy}")
     head = node.answer("HEAD", "/")
     want(head.headers == page.headers, f"HEAD / has {head.headers}, and GET / {page.headers}")
-    due = {"rds_edits_total": 6, "rds_edits_refused_total": 5, "rds_live_entries": 2, "rds_peers": 0, "rds_peers_met": 0}
-    due |= {"rds_caller_forks_total": 0, "rds_behind": 0}
+    due = {"rds_edits_total": 6, "rds_edits_refused_total": 5, "rds_live_entries": 2}
+    due |= {"rds_peers": 0, "rds_peers_met": 0, "rds_caller_forks_total": 0, "rds_behind": 0}
     for name, number in due.items():
         want(node.count(name) == number, f"{name} is {node.count(name)}, where {number} is due")
 
@@ -382,6 +382,7 @@ def judge_tags(node):
 def judge_matches(node):
     """Edits and growths that are wanted only where the document is as it was seen: 412 where it has another tag."""
     noted, edit = Noted(), b'["inc","matched",1]\n'
+    other = '412 json {"status":412,"text":"the document has another tag"}'
     mark = lambda: node.status()["mark"]
     with node.link() as link:
         asked = lambda target, body, *lines: link.answer(node.text("POST", target, body, *lines))
@@ -390,7 +391,7 @@ def judge_matches(node):
             for target, body in ("/edits", edit), ("/edits", b"oops"), ("/grow", b"matched"):
                 answer = asked(target, body, f"If-Match: {shown}")
                 with noted:
-                    judge(f"{target} if {shown}", answer, '412 json {"status":412,"text":"the document has another tag"}')
+                    judge(f"{target} if {shown}", answer, other)
                     want(f'"{mark()}"' == tag, f"after {target} if {shown} the document is another")
         for values in ["NOW"], ["*"], [f"{old} , NOW"], [old, "NOW"], ["NOW,"]:
             now = f'"{mark()}"'
