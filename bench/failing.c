@@ -1,7 +1,7 @@
 // Loaded before a program (LD_PRELOAD), fails its FAIL_AT-th request for memory, or its FAIL_AT-th call on files and
-// sockets, as FAIL_KIND is "memory" or "device". Or it ends the program, with the status ENDED, at that call on files and
-// sockets: "before" it, "after" it, or as it has written "half" of its bytes, for which only calls that write are counted.
-// The name of the request or call is written to the descriptor FAIL_TOLD.
+// sockets, as FAIL_KIND is "memory" or "device". Or it ends the program, with the status ENDED, at that call on files
+// and sockets: "before" it, "after" it, or as it has written "half" of its bytes, for which only calls that write are
+// counted. The name of the request or call is written to the descriptor FAIL_TOLD.
 #define _GNU_SOURCE
 #include <dlfcn.h>
 #include <errno.h>
@@ -60,7 +60,8 @@ GROWS(malloc, (size_t size), (size))
 GROWS(calloc, (size_t count, size_t size), (count, size))
 GROWS(realloc, (void *old, size_t size), (old, size))
 READS(read, (int file, void *to, size_t size), (file, to, size))
-GIVES(write, file == 1 ? "output" : file == 2 ? "standard error" : "write", (int file, const void *from, size_t size), (file, from, size))
+GIVES(write, file == 1 ? "output" : file == 2 ? "standard error" : "write", (int file, const void *from, size_t size),
+      (file, from, size))
 GIVES(pwrite, "pwrite", (int file, const void *from, size_t size, off_t place), (file, from, size, place))
 GIVES(pwrite64, "pwrite", (int file, const void *from, size_t size, off_t place), (file, from, size, place))
 READS(recv, (int file, void *to, size_t size, int flags), (file, to, size, flags))

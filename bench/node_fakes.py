@@ -102,7 +102,8 @@ def drips(link):
 def fakes_of(question, answer, slow=1):
     """Each fake by its name. A replica of the group asks the question, and the answer is made for another replica.
 
-    An unproved program lets go of a long body a byte at a time. So where it is slow, the one without end comes slowly."""
+    An unproved program lets go of a long body a byte at a time. So where it is slow, that without end comes
+    slowly."""
     chunk, pause = b"10000\r\n" + bytes(1 << 16) + b"\r\n", 0.02 if slow > 1 else 0
     chunked = b"HTTP/1.1 200 OK\r\nTransfer-Encoding: chunked\r\n\r\n"
     taken = response(b'{"taken":0}\n')

@@ -138,8 +138,8 @@ MOVES = {
 
 
 def try_gone(asked, folder):
-    """A node whose file was moved acknowledges nothing more, and makes no file in its place; one that was removed is made
-    again."""
+    """A node whose file was moved acknowledges nothing more, and makes no file in its place; one that was removed is
+    made again."""
     folder.mkdir()
     for number, ((what, move), lines) in enumerate(itertools.product(MOVES.items(), [FEW, MANY])):
         node = Node(asked.program, folder / f"{number}")
@@ -188,15 +188,16 @@ def try_removed(asked, folder):
     return f"one that was removed is made again; {try_narrow(asked, folder)}"
 
 
-# So many times MANY are sent to a node that can't write its file anew. A record of them has some 41,000 bytes. So the second
-# is the first that has no room. FILE then takes records up to twice the length that it has, and the fourth is tried again.
+# So many times MANY are sent to a node that can't write its file anew. A record of them has some 41,000 bytes. So the
+# second is the first that has no room. FILE then takes records up to twice the length that it has, and the fourth is
+# tried again.
 TIMES = 5
 TRIED = 2
 
 
 def try_narrow(asked, folder):
-    """A node that can't write its file anew appends what it acknowledges, and tries again each time the file has twice the
-    length. It writes it anew once that can be done."""
+    """A node that can't write its file anew appends what it acknowledges, and tries again each time the file has twice
+    the length. It writes it anew once that can be done."""
     node, file = Node(asked.program, folder), folder / "a.rds"
     inode, sent = file.stat().st_ino, 0
 

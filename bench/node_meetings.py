@@ -70,12 +70,12 @@ def try_one_sided(make, asked, folder):
     a.meets(relay.port, every=1)
     with running(b), running(a):
         quiet = lambda: soon(relay.is_quiet, "two nodes don't come to rest", 10 * a.slow)
+        ends = lambda: relay.answered.endswith(b"\r\n\r\n") and b" 304 " in relay.answered
         quiet()
         for here, steps in (a, ["/push 200"]), (b, ["tag 200", "/pull 200"]):
             quiet()
             edit_at(here, f"only/{here.own}", here.own)
             soon(lambda: value_at(a, f"only/{here.own}") == value_at(b, f"only/{here.own}"), "an edit doesn't come", 10)
-            ends = lambda: relay.answered.endswith(b"\r\n\r\n") and b" 304 " in relay.answered
             soon(ends, "two nodes don't come to rest", 10 * a.slow)
             found = [step for step in relay.requests() if step != "tag 304"]
             want(found == steps, f"where {here.own} alone has something the steps are {found}, and {steps} are due")
@@ -85,7 +85,7 @@ def try_one_sided(make, asked, folder):
         soon(lambda: value_at(a, "both/b") == value_at(b, "both/b"), "an edit doesn't come", 10 * a.slow)
         soon(lambda: value_at(a, "both/a") == value_at(b, "both/a"), "an edit doesn't come", 10 * a.slow)
         want(a.document() == b.document(), "two nodes that have met differ")
-        soon(lambda: relay.answered.endswith(b"\r\n\r\n") and b" 304 " in relay.answered, "two nodes don't come to rest", 10)
+        soon(ends, "two nodes don't come to rest", 10)
         found, steps = [step for step in relay.requests() if step != "tag 304"], ["tag 200", "/pull 200", "/push 200"]
         want(found == steps, f"where both have something the steps are {found}, and {steps} are due")
     return "where one side alone has something, one step is made"

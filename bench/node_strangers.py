@@ -23,8 +23,9 @@ NASTY = [
     *(b"\r\n", b"\n", b"\r", b"\0", b"\xff", b" ", b":", b"\r\n\r\n", b"%", b"%2", b"%00", b"%2F", b"//", b"{"),
     *(b"\r\nContent-Length: %d" % length for length in (-1, 0, 5, 1 << 63, 1 << 64)),
     *(b"\r\nTransfer-Encoding: " + coding for coding in (b"chunked", b"gzip, chunked", b"chunked, chunked")),
-    *(b"\r\nConnection: close", b"\r\nUpgrade: h2c", b"\r\nHost: x", b"\r\nExpect: 100-continue", b"\r\nCookie: rds_1="),
-    *(b"\r\n folded", b"\r\n" + b"a" * 20_000, b"\r\na: b" * 200, b"x" * 70_000, b"[" * 40_000, b'"\\ud800"'),
+    *(b"\r\nConnection: close", b"\r\nUpgrade: h2c", b"\r\nHost: x", b"\r\nExpect: 100-continue"),
+    *(b"\r\nCookie: rds_1=", b"\r\n folded", b"\r\n" + b"a" * 20_000, b"\r\na: b" * 200, b"x" * 70_000),
+    *(b"[" * 40_000, b'"\\ud800"'),
 ]
 
 
@@ -210,9 +211,9 @@ def judge_given_up(node, links, least, most, what):
 
 
 def try_places(asked, folder):
-    """Where all places are taken a new client gets that of the oldest that has asked nothing, then of who has been quiet
-    for longest, and then of who has begun a request. Who hears of changes keeps its place, and where all do none is
-    served."""
+    """Where all places are taken a new client gets that of the oldest that has asked nothing, then of who has been
+    quiet for longest, and then of who has begun a request. Who hears of changes keeps its place, and where all do none
+    is served."""
     node = Node(asked.program, folder, TOKEN)
     node.slow = asked.slow
     with running(node), contextlib.ExitStack() as stack:

@@ -255,7 +255,8 @@ def try_many(asked, folder):
     return f"{asked.entries:,} entries get to a node in {took[0]:.1f} s, and from it in {took[1]:.1f} s"
 
 
-PARTS = [try_both_ways, try_tokens, try_words, try_strange, try_held, try_forks, try_wrong, try_ended, try_kills, try_many]
+PARTS = [try_both_ways, try_tokens, try_words, try_strange, try_held, try_forks, try_wrong, try_ended, try_kills]
+PARTS += [try_many]
 
 
 def try_sync(asked, folder):

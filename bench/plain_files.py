@@ -1,5 +1,5 @@
-"""Files of the plain model, as docs/FORMATS.md has them: a snapshot, the record of its checksum in those that are written
-now, records of changes, and perhaps a torn end.
+"""Files of the plain model, as docs/FORMATS.md has them: a snapshot, the record of its checksum in those that are
+written now, records of changes, and perhaps a torn end.
 """
 import collections
 import hashlib
@@ -22,7 +22,8 @@ class Damaged(Refused):
         self.at = at
 
 
-# What a file holds, and in bytes where its snapshot ends, with that record where it has one, and its last whole record, and how long it is.
+# What a file holds, and in bytes where its snapshot ends, with that record where it has one, and its last whole record,
+# and how long it is.
 File = collections.namedtuple("File", "replica snapshot whole length")
 
 
@@ -46,11 +47,12 @@ def file_text(replica, format=2):
 
 
 def front_end(text, snapshot):
-    """Where the snapshot of so many bytes that begins a file ends, with the record of its checksum where that stands behind it.
-    Where no record does, the end of the file may not be such a record that begins inside of the snapshot."""
+    """Where the snapshot of so many bytes that begins a file ends, with the record of its checksum where that stands
+    behind it. Where no record does, the end of the file may not be such a record that begins inside of the snapshot."""
     payload = record_at(text, snapshot)
     if payload is None:
-        last = record_at(text, len(text) - SUM) if snapshot < len(text) < snapshot + SUM <= len(text) + snapshot else None
+        is_inside = snapshot < len(text) < snapshot + SUM <= len(text) + snapshot
+        last = record_at(text, len(text) - SUM) if is_inside else None
         refuse_if(last is not None and len(last) == SUM - HEAD and last[:1] == b"\3", 13)
     if payload is None or payload[:1] != b"\3":
         return snapshot
@@ -62,8 +64,8 @@ def record_at(text, at):
     """The payload of the whole record that begins at a byte, if one does."""
     size = int.from_bytes(text[at : at + 4], "big")
     payload = text[at + HEAD : at + HEAD + size]
-    is_whole = size <= MOST and at + HEAD + size <= len(text) and hashlib.sha256(payload).digest() == text[at + 4 : at + HEAD]
-    return payload if is_whole else None
+    is_there = size <= MOST and at + HEAD + size <= len(text)
+    return payload if is_there and hashlib.sha256(payload).digest() == text[at + 4 : at + HEAD] else None
 
 
 def claims_in(rest):

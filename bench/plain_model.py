@@ -32,7 +32,7 @@ def line_of(number):
     return f"fault {number}: {NAMES[number]}\n"
 
 
-# The model. An entry is (path, kind, scalar), and a scalar (tag, value), so that both are in the order of docs/MODEL.md.
+# An entry is (path, kind, scalar), and a scalar (tag, value), so that both are in the order of docs/MODEL.md.
 class State:
     """The life of each dot that is seen, None where it is dead, and the two numbers of each counter and replica."""
 
@@ -84,7 +84,8 @@ def mixed(mark, words):
 def words_of(text):
     """How many bytes a text has, these eight at a time, and the last eight."""
     text = text.encode()
-    return [len(text), *(int.from_bytes(text[at : at + 8], "big") for at in range(0, len(text) - 7, 8)), int.from_bytes(text[-8:], "big")]
+    eights = [text[at : at + 8] for at in range(0, len(text) - 7, 8)]
+    return [len(text), *(int.from_bytes(it, "big") for it in [*eights, text[-8:]])]
 
 
 def live_words(dot, entry):
@@ -151,7 +152,8 @@ def begun(replica, name):
     refuse_if(not re.fullmatch("[a-z][a-z0-9-]{0,15}", name), 2)
     refuse_if(name not in replica.names, 26)
     own, state = replica.names.index(name), replica.state
-    refuse_if(own == replica.own or any(dot[0] == own for dot in state.lives) or any(at[1] == own for at in state.numbers), 21)
+    refuse_if(own == replica.own, 21)
+    refuse_if(any(dot[0] == own for dot in state.lives) or any(at[1] == own for at in state.numbers), 21)
     return replica._replace(own=own)
 
 

@@ -26,8 +26,8 @@ def whole_text(digest, version):
 
 
 def behind_text(digest, other, version):
-    """By which a session says it to one whose own is known: in version 5 what is wanted of that, with its dots that are lacking
-    here as dead ones, and those that live here and are dead there as live ones."""
+    """By which a session says it to one whose own is known: in version 5 what is wanted of that, with its dots that are
+    lacking here as dead ones, and those that live here and are dead there as live ones."""
     if version < 5:
         return whole_text(digest, version)
     (ranks, numbers), theirs = digest, other[0]
@@ -62,11 +62,12 @@ def message(body, sizes=()):
 
 
 class Course:
-    """A session of a replica as the server, or as a client that says a version: what it says where a whole stream comes, what it
-    received, and the fault that it ends by."""
+    """A session of a replica as the server, or as a client that says a version: what it says where a whole stream
+    comes, what it received, and the fault that it ends by."""
 
     def __init__(self, replica, stream, says=None):
-        self.replica, self.waits, self.digest, self.received = replica, [HELLO, DIGEST, DELTA, BYE], replica.state.digest(), None
+        self.replica, self.digest, self.received = replica, replica.state.digest(), None
+        self.waits = [HELLO, DIGEST, DELTA, BYE]
         self.names, self.version, self.says, self.missed = replica.names, None, says, False
         self.said = b"" if says is None else self.opening(says, says >= 4)
         self.fault, self.is_bye = 23, False
@@ -140,7 +141,8 @@ class Course:
             self.waits.pop(0)
             return self.answer_digest(self.digest, True)
         self.missed = True
-        self.said += self.opening(self.version, False) if self.says is None else message(whole_text(self.digest, self.version))
+        whole = lambda: message(whole_text(self.digest, self.version))
+        self.said += self.opening(self.version, False) if self.says is None else whole()
 
     def judge_digest(self, body):
         parts = Parts(body, len(self.names))
@@ -184,8 +186,8 @@ class Course:
 
 
 def stream_of(client, server, delta=None, asker=None, version=2):
-    """The messages that a client of a version says to a server, and with them this delta in place of its own. The mark is that of
-    what the client has then."""
+    """The messages that a client of a version says to a server, and with them this delta in place of its own. The mark
+    is that of what the client has then."""
     own, digest = client.state.digest(), server.state.digest()
     held = client.state.joined(server.state.least(own))
     delta = client.state.least(digest) if delta is None else delta

@@ -56,7 +56,8 @@ def top_of(runs):
 
 def tops_text(of):
     gap_text = lambda gap: number(gap[0], 8) + number(gap[1], 8)
-    return many(2, (number(replica, 1) + number(top, 8) + many(4, map(gap_text, gaps)) for replica, (top, gaps) in of.items()))
+    rows = (number(replica, 1) + number(top, 8) + many(4, map(gap_text, gaps)) for replica, (top, gaps) in of.items())
+    return many(2, rows)
 
 
 def dots_text(dots):
@@ -83,15 +84,17 @@ def count_rows(numbers):
 
 
 def counts_text(numbers, key_text=piece):
+    pair_text = lambda ups, downs: number(ups, 8) + number(downs, 8)
     rows = count_rows(numbers)
-    return many(4, (key_text(key) + number(replica, 1) + number(ups, 8) + number(downs, 8) for (key, replica), (ups, downs) in rows))
+    return many(4, (key_text(key) + number(replica, 1) + pair_text(*pair) for (key, replica), pair in rows))
 
 
 def parts_text(seen, live, numbers, format=2):
     """The text of a state whose dots are tops and gaps."""
     table = {}
     if format == 2:
-        used = [key for _, (path, _, _) in sorted(live.items()) for key in path] + [key for (key, _), _ in count_rows(numbers)]
+        used = [key for _, (path, _, _) in sorted(live.items()) for key in path]
+        used += [key for (key, _), _ in count_rows(numbers)]
         table = {key: place for place, key in enumerate(dict.fromkeys(used))}
     key_text = piece if format == 1 else lambda key: number(table[key], 4)
     rows = many(4, (dot_text(dot) + entry_text(entry, key_text) for dot, entry in sorted(live.items())))
@@ -191,7 +194,8 @@ def response_text(replica, asked):
     longer(asked.names, replica.names)
     refuse_if(asked.own == replica.own, 21)
     digest = asked.state.digest()
-    return b"RDSC" + hello_text(replica) + b"".join(tag_of(replica)) + answer_text(asked.own, replica.state.least(digest), digest)
+    answer = answer_text(asked.own, replica.state.least(digest), digest)
+    return b"RDSC" + hello_text(replica) + b"".join(tag_of(replica)) + answer
 
 
 class Reader:
@@ -357,7 +361,8 @@ class Parts(Reader):
         try:
             while first := self.packed():
                 replica, size = self.replica(), self.packed() + 1
-                refuse_if(replica < before[0] or replica == before[0] and first < before[1] + 2 or first + size - 1 > GREATEST, 13)
+                refuse_if(replica < before[0] or replica == before[0] and first < before[1] + 2, 13)
+                refuse_if(first + size - 1 > GREATEST, 13)
                 at = self.at
                 lives = self.lives(size)
                 refuse_if(self.text[at : self.at] != lives_text(lives), 13)
@@ -418,7 +423,8 @@ def runs_in(of):
 
 def are_within(of, seen):
     runs = list(runs_in(seen))
-    return all(any(r == replica and f <= first and last <= l for r, f, l in runs) for replica, first, last in runs_in(of))
+    is_within = lambda replica, first, last: any(r == replica and f <= first and last <= l for r, f, l in runs)
+    return all(is_within(*run) for run in runs_in(of))
 
 
 def set_of(of):

@@ -1,7 +1,9 @@
-// Loaded before a program (LD_PRELOAD), writes a line for each call that changes files or says something to the file RECORD_TO,
-// after it is made, and ends the program after the RECORD_END-th of them, if that isn't 0. `bench/power` reads the lines:
+// Loaded before a program (LD_PRELOAD), writes a line for each call that changes files or says something to the file
+// RECORD_TO, after it is made, and ends the program after the RECORD_END-th of them, if that isn't 0. `bench/power`
+// reads the lines:
 //
-//     CALL INODE REST    made PATH, wrote PLACE BYTES, cut LENGTH, synced, renamed FROM TO, unlinked PATH; said 0 BYTES, sent
+//     CALL INODE REST    made PATH, wrote PLACE BYTES, cut LENGTH, synced, renamed FROM TO, unlinked PATH;
+//                        said 0 BYTES, sent
 #define _GNU_SOURCE
 #include <dlfcn.h>
 #include <fcntl.h>

@@ -1,13 +1,13 @@
-//! A plain program, unproved, for scale: what `join` and `pair` cost where nothing is promised. It reads both formats, and writes
-//! the same bytes as `rds_node`, of format 2, for snapshots without counters whose values are whole numbers or texts. It panics at
-//! any other.
+//! A plain program, unproved, for scale: what `join` and `pair` cost where nothing is promised. It reads both formats,
+//! and writes the same bytes as `rds_node`, of format 2, for snapshots without counters whose values are whole numbers
+//! or texts. It panics at any other.
 //!
 //!     rustc --edition 2021 -O -o files bench/plain/files.rs
 //!     files join < LINES
 //!     files pair FILE FILE
 //!
-//! `pair` sends nothing: each file gets the live rows that it lacks, so nothing may have been deleted. Keys are numbered by a map
-//! with std's hasher, whose seed is random.
+//! `pair` sends nothing: each file gets the live rows that it lacks, so nothing may have been deleted. Keys are
+//! numbered by a map with std's hasher, whose seed is random.
 use std::cmp::Ordering;
 use std::collections::{HashMap, HashSet};
 use std::io::{self, BufRead, Write};

@@ -1,6 +1,6 @@
-//! A plain program, unproved, for scale: what states of the two formats cost where nothing is promised. It makes the states that
-//! `rds_bench formats` makes, and prints the same figures: the dots, and of each format the bytes of the text and the fewest
-//! microseconds that encoding and decoding took.
+//! A plain program, unproved, for scale: what states of the two formats cost where nothing is promised. It makes the
+//! states that `rds_bench formats` makes, and prints the same figures: the dots, and of each format the bytes of the
+//! text and the fewest microseconds that encoding and decoding took.
 //!
 //!     rustc --edition 2021 -O -o formats bench/plain/formats.rs
 //!     formats DOTS KEYS

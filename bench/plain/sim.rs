@@ -1,5 +1,5 @@
-//! A plain program that answers `sim`'s edits and shows, for scale: `rustc --edition 2021 -O bench/plain/sim.rs`.
-//! It reads lines of JSON from its standard input: a roster first, then add, set, del, clear, inc, dec and show. It has no
+//! A plain program that answers `sim`'s edits and shows, for scale: `rustc --edition 2021 -O bench/plain/sim.rs`. It
+//! reads lines of JSON from its standard input: a roster first, then add, set, del, clear, inc, dec and show. It has no
 //! proof, judges little, and answers as rds_node does on lines that are not refused.
 use std::collections::BTreeMap;
 use std::fmt::Write as _;

@@ -1,6 +1,6 @@
 /* How long calls take, over a document of so many registers, m{0..99}/k{i}: bench ELEMENTS
- * Each line: what it was, how often, the processor's microseconds for one, bytes or nothing, with tabs between. Where it
- * runs under callgrind, each has dumps of its own, by which `bindings/speeds --count` tells its instructions. */
+ * Each line: what it was, how often, the processor's microseconds for one, bytes or nothing, with tabs between. Where
+ * it runs under callgrind, each has dumps of its own, by which `bindings/speeds --count` tells its instructions. */
 #define _GNU_SOURCE
 #include "rds.h"
 
