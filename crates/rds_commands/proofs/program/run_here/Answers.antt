@@ -78,6 +78,9 @@ returns-in-Check-clause-written g c = rw c.in-Check.is c.run_check.ensures.writt
 pub returns-in-Diff-clause-written : goal.returns-in-Diff-clause-written
 returns-in-Diff-clause-written g c = rw c.in-Diff.is c.run_diff.ensures.written
 
+pub returns-in-Files-clause-written : goal.returns-in-Files-clause-written
+returns-in-Files-clause-written g c = rw c.in-Files.is c.run_text.ensures.written
+
 pub returns-in-Faults-clause-written : goal.returns-in-Faults-clause-written
 returns-in-Faults-clause-written g c = rw c.in-Faults.is c.run_text-in-Faults.ensures.written
 
