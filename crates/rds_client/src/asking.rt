@@ -21,7 +21,7 @@ pub struct AskWords<'a> {
 /// Makes one request of a node, for a resource at a path, with a body of these pieces, and answers the body of its response.
 /// What the request asks for may be done where there is no response.
 ///
-/// `Usage` where the text names no node, or the token's file has none. `Device` where the node can't be reached or waited
+/// `Usage` where the text names no host and port, or the token's file has none. `Device` where the node can't be reached or waited
 /// for, or lets wait too long; `OutOfTurn` where it is no node; `TooLong` of a response. Where it refuses the
 /// request that is its own fault; `PeerEnded` where it tells none, where it says that the document is older than what is
 /// taken, or ends the connection. Standard error has a line that says why.
@@ -32,7 +32,7 @@ pub fn ask_node<H: Disk + Net>(
     path: &str,
     pieces: &[&[u8]],
 ) -> Result<Vec<u8>, Fault> {
-    let name = name_in(rt, words.node)?;
+    let name = name_in(words.node);
     let token = read_secret(rt, words.token_file)?;
     let mut caller = caller_of(rt, name, token.as_ref(), Some(words.timeout))?;
     match caller.ask(rt, &Request::new(resource, path, pieces)) {

@@ -249,16 +249,10 @@ impl<'a> Caller<'a> {
     }
 }
 
-/// The host and port in the address of a node, behind `http://` and before a slash, if there is one. Any other text is
-/// `Usage`, with a line on standard error.
-pub fn name_in<'a, H: Eprint>(rt: &H, node: &'a str) -> Result<&'a str, Fault> {
-    match node.strip_prefix("http://") {
-        Some(name) => Ok(name.strip_suffix('/').unwrap_or(name)),
-        None => {
-            let _ = eprintln!(rt; "'{node}' is no node, as http://127.0.0.1:7780 is");
-            Err(Fault::Usage)
-        }
-    }
+/// The host and port in the address of a node: behind `http://` and before a slash, where these stand there.
+pub fn name_in(node: &str) -> &str {
+    let name = node.strip_prefix("http://").unwrap_or(node);
+    name.strip_suffix('/').unwrap_or(name)
 }
 
 /// The node of this host and port, before the first call. Refuses as [`find_node`] does, and where the clock can't be read

@@ -1,4 +1,4 @@
-//! Where the peers of a site are.
+//! Where nodes are that are called: the one that a command names, and the peers of a site.
 ghost use Rattle.std.specs.Prelude.{◌≡◌, ◌<◌, ◌++◌, Err, codes, length, option_map, vec_len, IfOk};
 ghost use Rattle.rds_names.specs.declared.fault.Fault.TheVariants.{Usage};
 ghost use Rattle.rds_client.specs.declared.destinations.TheConstants.{MOST_PEERS};
@@ -9,6 +9,7 @@ use rds_names::Fault;
 use std::alloc::{AllocError, Global};
 use std::io;
 use std::io::ErrorKind;
+use std::marker::Model;
 use std::net::{Net, SocketAddr, ToSocketAddrs};
 
 /// A site meets so many peers at most.
@@ -30,14 +31,32 @@ pub struct Destination<'a> {
     authorization: Option<Vec<u8>>,
 }
 
+impl<'a> Model for Destination<'a> {
+    ghost use Rattle.std.specs.Prelude.{option_map};
+    ghost use Rattle.rds_client.specs.Destinations.{DestinationValue, coded_destination};
+
+    ghost Value = { DestinationValue };
+
+    ghost coded = { coded_destination };
+
+    ghost view = { λ d. record {
+      name = d.name.now;
+      authorization = option_map (λ value. value.items) d.authorization;
+    } };
+}
+
 impl<'a> Destination<'a> {
     /// Its host and port, as it was named.
-    pub fn name(&self) -> &'a str {
+    pub fn name(&self) -> &'a str
+        ensures { result.now ≡ self.now.name }
+    {
         self.name
     }
 
     /// What requests show of the token, where there is one: the value of `Authorization` (RFC 6750).
-    pub fn authorization(&self) -> Option<&[u8]> {
+    pub(crate) fn authorization(&self) -> Option<&[u8]>
+        ensures { option_map (λ value. value.now) result ≡ self.now.authorization }
+    {
         match &self.authorization {
             Some(value) => Some(value.as_slice()),
             None => None,
@@ -50,7 +69,9 @@ impl<'a> Destination<'a> {
     }
 
     /// Turns to the next address. Answers whether there is one that wasn't tried in this round.
-    pub fn turn(&mut self) -> bool {
+    pub fn turn(&mut self) -> bool
+        ensures { self.new ≡ self.old }
+    {
         self.at = self.at.saturating_add(1);
         if self.at < self.addresses.len() {
             return true;
@@ -60,7 +81,9 @@ impl<'a> Destination<'a> {
     }
 
     /// Looks its name up where that is due. Where it isn't found, it may still be where it was before.
-    pub fn look_up<H: Net + AllocGlobal>(&mut self, rt: &H) -> io::Result<()> {
+    pub fn look_up<H: Net + AllocGlobal>(&mut self, rt: &H) -> io::Result<()>
+        ensures { self.new ≡ self.old }
+    {
         if !self.is_stale {
             return Ok(());
         }
@@ -77,7 +100,9 @@ impl<'a> Destination<'a> {
     }
 
     /// Its name is to be looked up before the next try.
-    pub fn doubt(&mut self) {
+    pub fn doubt(&mut self)
+        ensures { self.new ≡ self.old }
+    {
         self.is_stale = true;
         self.at = 0;
     }
@@ -145,7 +170,9 @@ pub fn find_node<'a, H: Net + Eprint + AllocGlobal>(
     name: &'a str,
     token: Option<&Token>,
 ) -> Result<Destination<'a>, Fault>
-    ensures name { IfOk result (λ found. found.name.now ≡ name.now) }
+    ensures name { IfOk result (λ found. found.name ≡ name.now) }
+    ensures shown { IfOk result (λ found. found.authorization
+        ≡ option_map (λ token. codes "Bearer " ++ token.now) token.entry) }
 {
     check_place(rt, name)?;
     let addresses = find_addresses(rt, name)?;
@@ -170,7 +197,9 @@ fn destination_of<'a>(
     addresses: Vec<SocketAddr>,
     token: Option<&Token>,
 ) -> Result<Destination<'a>, AllocError>
-    ensures name { IfOk result (λ found. found.name.now ≡ name.now) }
+    ensures name { IfOk result (λ found. found.name ≡ name.now) }
+    ensures shown { IfOk result (λ found. found.authorization
+        ≡ option_map (λ token. codes "Bearer " ++ token.now) token.entry) }
 {
     Ok(Destination {
         name,

@@ -1,4 +1,6 @@
-//! Requests to a peer, and its responses (HTTP/1.1, RFC 9112).
+//! Requests to a node, and its responses (HTTP/1.1, RFC 9112).
+ghost use Rattle.std.specs.Prelude.{◌≡◌, [], None};
+
 use crate::destinations::Destination;
 use crate::troubles::Trouble;
 use bytes::{BufMut, BytesMut};
@@ -169,7 +171,12 @@ pub struct Request<'r> {
 
 impl<'r> Request<'r> {
     /// A request whatever the peer's tag is.
-    pub fn new(resource: Resource, path: &'r str, pieces: &'r [&'r [u8]]) -> Request<'r> {
+    pub fn new(resource: Resource, path: &'r str, pieces: &'r [&'r [u8]]) -> Request<'r>
+        ensures resource { result.resource ≡ resource }
+        ensures path { result.path.now ≡ path.now }
+        ensures unless { result.unless ≡ None }
+        ensures pieces { result.pieces.now ≡ pieces.now }
+    {
         Request {
             resource,
             path,
@@ -182,6 +189,7 @@ impl<'r> Request<'r> {
 /// What the head of a response says. An older node tells neither its tag nor its number.
 #[derive(Clone, Copy)]
 pub struct Head {
+    /// The status code.
     pub status: u16,
     /// The tag of what the peer asks.
     pub tag: Option<Tag>,
@@ -214,13 +222,15 @@ impl Head {
 /// A response that has come whole.
 #[derive(Drop)]
 pub struct Response {
+    /// What its head says.
     pub head: Head,
+    /// Its body.
     pub body: Vec<u8>,
 }
 
 impl Response {
     /// Whether it has a line for each edit of the request. Where all of these are refused, its status says so.
-    pub fn has_lines(&self, request: &Request<'_>) -> bool {
+    pub(crate) fn has_lines(&self, request: &Request<'_>) -> bool {
         matches!(request.resource, Resource::Edits) && self.head.is_due
     }
 }
@@ -245,7 +255,10 @@ pub struct Talk {
 
 impl Talk {
     /// Nothing was said yet.
-    pub fn new(alloc: Global) -> Talk {
+    pub fn new(alloc: Global) -> Talk
+        ensures output { result.output.items ≡ [] }
+        ensures input { result.input.items ≡ [] }
+    {
         Talk {
             alloc,
             client: Client::new(Limits::default()),
@@ -263,7 +276,9 @@ impl Talk {
         &mut self,
         destination: &Destination<'_>,
         request: &Request<'_>,
-    ) -> Result<(), Trouble> {
+    ) -> Result<(), Trouble>
+        ensures input { self.new.input ≡ self.old.input }
+    {
         let length = total_len(request.pieces);
         self.output.reserve(length.saturating_add(HEAD_ROOM))?;
         self.write_head(destination, request, length)?;
@@ -281,7 +296,9 @@ impl Talk {
         destination: &Destination<'_>,
         request: &Request<'_>,
         length: usize,
-    ) -> Result<(), Trouble> {
+    ) -> Result<(), Trouble>
+        ensures input { self.new.input ≡ self.old.input }
+    {
         let fields = fields_of(self.alloc, destination, request.unless)?;
         let resource = request.resource;
         let target = resource.target(self.alloc, request.path)?;
@@ -297,7 +314,7 @@ impl Talk {
 
     /// Writes a request for what is told of changes: the connection is to be handed over to WebSocket, by a handshake of
     /// this key (RFC 6455).
-    pub fn handshake(
+    pub(crate) fn handshake(
         &mut self,
         destination: &Destination<'_>,
         key: &[u8; 24],
@@ -344,7 +361,10 @@ impl Talk {
     }
 
     /// The peer has ended the connection. Answers the response, where that makes it whole.
-    pub fn end(&mut self) -> Result<Option<Response>, Trouble> {
+    pub fn end(&mut self) -> Result<Option<Response>, Trouble>
+        ensures output { self.new.output ≡ self.old.output }
+        ensures input { self.new.input ≡ self.old.input }
+    {
         match self.client.read_eof()? {
             Event::End(_) => self.response(),
             _ => Err(Trouble::Ended),
@@ -391,7 +411,10 @@ impl Talk {
     }
 
     // The response that has come.
-    fn response(&mut self) -> Result<Option<Response>, Trouble> {
+    fn response(&mut self) -> Result<Option<Response>, Trouble>
+        ensures output { self.new.output ≡ self.old.output }
+        ensures input { self.new.input ≡ self.old.input }
+    {
         let body = mem::replace(&mut self.body, Vec::new(self.alloc));
         let head = mem::replace(&mut self.head, Head::NONE);
         if head.status == DONE && !head.is_due {
@@ -406,12 +429,18 @@ impl Talk {
     }
 
     /// Hands out what came and wasn't read.
-    pub fn take_input(&mut self) -> BytesMut {
+    pub(crate) fn take_input(&mut self) -> BytesMut
+        ensures taken { result ≡ self.old.input }
+        ensures input { self.new.input.items ≡ [] }
+    {
         mem::replace(&mut self.input, BytesMut::new(self.alloc))
     }
 
     /// Lets go of what is to be sent, and of its room.
-    pub fn clear_output(&mut self) {
+    pub fn clear_output(&mut self)
+        ensures output { self.new.output.items ≡ [] }
+        ensures input { self.new.input ≡ self.old.input }
+    {
         self.output = BytesMut::new(self.alloc);
     }
 }

@@ -1,5 +1,6 @@
 //! Why an exchange with a peer broke off, or how it ended, and how the peer stands then.
 ghost use Rattle.std.specs.Prelude.{◌≡◌, ◌≢◌};
+ghost use Rattle.rds_client.specs.Troubles.{StandsAfter, fault_of, is_refusal};
 ghost use Rattle.rds_client.specs.declared.troubles.End.TheVariants as Ends;
 ghost use Rattle.rds_client.specs.declared.troubles.Standing.TheVariants.{Forked, Met};
 
@@ -167,14 +168,18 @@ impl Standing {
     }
 
     /// Whether one of the two sides refused the other.
-    pub fn is_refusal(self) -> bool {
+    pub fn is_refusal(self) -> bool
+        ensures { result ≡ is_refusal self }
+    {
         matches!(self, Standing::Refused { .. } | Standing::Unfit { .. })
     }
 }
 
 impl Trouble {
     /// How the peer stands after it.
-    pub fn standing(&self) -> Standing {
+    pub fn standing(&self) -> Standing
+        ensures { StandsAfter self.now result }
+    {
         match self {
             Trouble::Refused(response) => Standing::Refused {
                 status: response.head.status,
@@ -188,7 +193,9 @@ impl Trouble {
     }
 
     /// The fault that it is for who met the peer.
-    pub fn fault(&self) -> Fault {
+    pub fn fault(&self) -> Fault
+        ensures { result ≡ fault_of self.now }
+    {
         match self {
             Trouble::Memory => Fault::Memory,
             Trouble::System(_) | Trouble::Silence(_) => Fault::Device,
@@ -201,7 +208,7 @@ impl Trouble {
 
     /// The fault that it is for who had the peer do something: the peer's own, where it refused that by one which says no
     /// more than its name.
-    pub fn refusal(&self) -> Fault {
+    pub(crate) fn refusal(&self) -> Fault {
         match self {
             Trouble::Refused(response) => match fault_in(&response.body) {
                 Some((number, _)) => named_by(number).unwrap_or(Fault::PeerEnded),
@@ -242,7 +249,9 @@ impl fmt::Display for Trouble {
 }
 
 /// Tells of a trouble with a peer on standard error, and answers the fault that it is.
-pub fn tell<H: Eprint>(rt: &H, name: &str, trouble: Trouble) -> Fault {
+pub fn tell<H: Eprint>(rt: &H, name: &str, trouble: Trouble) -> Fault
+    ensures { result ≡ fault_of trouble }
+{
     trouble.tell(rt, name);
     trouble.fault()
 }

@@ -58,7 +58,7 @@ struct Own {
 /// become. At last it is asked for its question once more, which tells whether the two are level. Each call has a
 /// connection of its own.
 ///
-/// `Usage` where the text names no node, or the token's file has none. What `ReplicaFile::open_lasting`, `take_file` and
+/// `Usage` where the text names no host and port, or the token's file has none. What `ReplicaFile::open_lasting`, `take_file` and
 /// `answer_file` refuse with, `WrongGroup`, `WrongRoster` and `SameReplica` as a session tells them. `Device` where the
 /// node can't be reached or waited for, or lets wait too long; `PeerEnded` where it ends the connection or refuses a
 /// request; `OutOfTurn` where it is no node; `TooLong` of a response. `Forked` where both have seen the same,
@@ -135,7 +135,7 @@ impl<'a> Meeting<'a> {
     fn begin<H: Disk + Net>(rt: &H, words: &VisitWords<'a>) -> Result<Meeting<'a>, Fault>
         ensures path { IfOk result (λ meeting. meeting.path.now ≡ words.now.file.now) }
     {
-        let name = name_in(rt, words.node)?;
+        let name = name_in(words.node);
         let token = read_secret(rt, words.token_file)?;
         let own = Own::read(rt, words.file)?;
         Ok(Meeting {

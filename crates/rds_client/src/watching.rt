@@ -31,7 +31,7 @@ struct Watch<T: Drop> {
 /// Follows a node over its HTTP until a fault ends that, which is answered. Each text that it tells of changes is printed
 /// as a line, where it tells of a path that is the part, lies below it or above it, or of any path.
 ///
-/// `Usage` where the text names no node, or the token's file has none. `Device` where the node can't be reached, lets wait
+/// `Usage` where the text names no host and port, or the token's file has none. `Device` where the node can't be reached, lets wait
 /// too long until it hands the connection over, is silent for 60 seconds then, or the output can't be written; `PeerEnded`
 /// where it ends the connection or refuses the request; `OutOfTurn` where it is no node; `TooLong` of a response, or a
 /// text. Standard error has a line that says why, but not of the output.
@@ -52,7 +52,7 @@ fn try_watch<H: Disk + Net + RandomSource + Print>(
     words: &AskWords<'_>,
     part: &Path,
 ) -> Result<(), Fault> {
-    let name = name_in(rt, words.node)?;
+    let name = name_in(words.node);
     let token = read_secret(rt, words.token_file)?;
     let mut caller = caller_of(rt, name, token.as_ref(), Some(words.timeout))?;
     match follow(rt, &mut caller, part) {
