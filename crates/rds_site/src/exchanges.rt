@@ -3,6 +3,7 @@ use crate::channels::Channel;
 use crate::committed::Committed;
 use crate::levels::Level;
 use rds_client::{DONE, Destination, End, NOT_MODIFIED, Request, Resource, Response, Trouble};
+use rds_fields::tag_text;
 use rds_files::{Disk, LockFile};
 use rds_http::{Lacks, Site};
 use rds_names::Fault;
@@ -157,7 +158,7 @@ impl Exchange {
                 self.step = Step::Checking { level };
             }
             None => {
-                let tag = format!(in self.alloc; "{own}")?;
+                let tag = tag_text(self.alloc, &own)?;
                 self.look(destination, Resource::Ask, &tag, now)?;
                 self.step = Step::Asking;
             }
