@@ -6,17 +6,19 @@ use Rattle.http_header.specs.FieldValue.{FieldValue}
 use Rattle.http_header.specs.HeaderMap.{Entries}
 use Rattle.http_server.specs.Response.{IsResponse}
 use Rattle.http_server.specs.declared.response.Response.{Response}
+use Rattle.rds_fields.specs.Tags.{tag_text}
 use Rattle.rds_names.specs.Path.{path_of}
 use Rattle.rds_names.specs.declared.fault.Fault.{Fault}
+use Rattle.rds_questions.specs.Tags.{IsTagOf}
+use Rattle.rds_questions.specs.declared.tags.Tag.{Tag}
 use Rattle.rds_state.specs.Fits.{ReplicaValue}
 use Rattle.rds_state.specs.Value.{StateValue}
 use Rattle.rds_store.specs.Meetings.{MayAsk}
 use Rattle.rds_http.specs.Looks.{AnswersLook, IsToldOf, IsValueAt, ShowsQuestion, ShowsSnapshot, TellsQuestion, own_field, path_in}
 use Rattle.rds_http.specs.Replies.{tag_fields, type_field}
-use Rattle.rds_http.specs.Tags.{IsTagOf, is_known, tag_text}
+use Rattle.rds_http.specs.Tags.{is_known}
 use Rattle.rds_http.specs.declared.routes.Look.{Look}
 use Rattle.rds_http.specs.declared.routes.Look.TheVariants.{Snapshot}
-use Rattle.rds_http.specs.declared.tag.Tag.{Tag}
 
 -- what is known isn't told
 nothing_told : (known : Bool) (text : List ℕ) (told : Option (String Global)) → known ≡ true → told ≡ None → IsToldOf known text told

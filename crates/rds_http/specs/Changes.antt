@@ -5,6 +5,7 @@ use Rattle.std.specs.Int.{to_be_bytes, w32}
 use Rattle.std.specs.Str.{is_utf8}
 use Rattle.http_server.specs.declared.response.Response.{Response}
 use Rattle.rds_codec.specs.Decoding.{Decodes, IsTextOf}
+use Rattle.rds_fields.specs.Tags.{HoldsTagged}
 use Rattle.rds_lines.specs.Editing.{EditsLines, replies_text}
 use Rattle.rds_lines.specs.Lines.{lines_in}
 use Rattle.rds_names.specs.declared.fault.Fault.{Fault}
@@ -15,6 +16,8 @@ use Rattle.rds_output.specs.declared.reply.Reply.{Reply}
 use Rattle.rds_output.specs.declared.reply.Reply.TheVariants.{Done, Taken}
 use Rattle.rds_questions.specs.Questions.{QuestionValue, question_kind}
 use Rattle.rds_questions.specs.Responding.{RespondGives}
+use Rattle.rds_questions.specs.Tags.{IsTagOf, RefusesTag}
+use Rattle.rds_questions.specs.declared.tags.Tag.{Tag}
 use Rattle.rds_state.specs.Fits.{ReplicaValue}
 use Rattle.rds_store.specs.Documents.{IsGrownBy, RefusesGrowth}
 use Rattle.rds_store.specs.Meetings.{MayAnswer, MayAsk, RefusesTaking, RespondsTo}
@@ -23,9 +26,7 @@ use Rattle.rds_http.specs.Lines.{line_count, lines_status}
 use Rattle.rds_http.specs.Looks.{lines_of_json}
 use Rattle.rds_http.specs.Refusals.{IsUnknownTag, TellsFault, json}
 use Rattle.rds_http.specs.Replies.{Tells}
-use Rattle.rds_http.specs.Tags.{HoldsTagged, IsTagOf, RefusesTag}
 use Rattle.rds_http.specs.declared.lines.TheConstants.{MOST_LINES}
-use Rattle.rds_http.specs.declared.tag.Tag.{Tag}
 
 -- ---- edits
 

@@ -1,5 +1,5 @@
-//! The HTTP service over a document in its file: what a request is answered, and what it changes. Read `routes`,
-//! `token` and `access` first, then `tag`, `asked`, `touched` and `tracked`, which has the document in its file. Then
+//! The HTTP service over a document in its file: what a request is answered, and what it changes. Read `routes`
+//! and `access` first, then `asked`, `touched` and `tracked`, which has the document in its file. Then
 //! `replies`, `refusals`, `conditions`, `reading`, `pulling`, `metrics`, `lines`, `changing`, `login` and `live`. `site` puts them together;
 //! `meeting` has what a site asks of others, and they of it, and `news` what listeners are told.
 #![tactic(auto)]
@@ -20,8 +20,6 @@ mod refusals;
 mod replies;
 mod routes;
 mod site;
-mod tag;
-mod token;
 mod touched;
 mod tracked;
 
@@ -30,5 +28,3 @@ pub use asked::LONGEST_QUESTION;
 pub use metrics::{PeerCounts, PeerStanding};
 pub use rds_store::Lacks;
 pub use site::Site;
-pub use tag::Tag;
-pub use token::Token;

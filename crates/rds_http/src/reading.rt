@@ -7,6 +7,7 @@ ghost use Rattle.rds_listing.specs.Conflicts.{conflicts_text};
 ghost use Rattle.rds_names.specs.Path.{path_of};
 ghost use Rattle.rds_names.specs.declared.fault.Fault.TheVariants.{Memory};
 ghost use Rattle.rds_store.specs.Looks.{RefusesPlace, here_text, view_text};
+ghost use Rattle.rds_questions.specs.Tags.{IsTagOf};
 ghost use Rattle.rds_http.specs.Changes.{AnswersQuestion};
 ghost use Rattle.rds_http.specs.Looks.{
   AnswersLook,
@@ -29,14 +30,12 @@ ghost use Rattle.rds_http.specs.Looks.{
 };
 ghost use Rattle.rds_http.specs.Replies.{TellsIfUnknown};
 ghost use Rattle.rds_http.specs.Refusals.{TellsFault, json};
-ghost use Rattle.rds_http.specs.Tags.{IsTagOf};
 
 use crate::conditions::{Seen, is_known, seen_of};
 use crate::metrics::{Metrics, PeerCounts};
 use crate::refusals::refuse;
 use crate::replies::{BYTES, JSON, LINES, add_field, fill, fill_tagged, tell_known};
 use crate::routes::Look;
-use crate::tag::Tag;
 use crate::tracked::Tracked;
 use bytes::Bytes;
 use http::StatusCode;
@@ -46,10 +45,12 @@ use http::header::{
 };
 use http_server::Response;
 use percent_encoding::{DecodeError, percent_decode};
+use rds_fields::tag_text;
 use rds_files::Disk;
 use rds_lines::place_of;
 use rds_names::{Fault, Path};
 use rds_page::{PAGE, POLICY};
+use rds_questions::Tag;
 use rds_store::Document;
 use std::alloc::{AllocError, Global};
 
@@ -127,7 +128,7 @@ fn tell_question(
     requires tag { IsTagOf document.now tag }
     ensures { OnOk result (ShowsQuestion headers.now document.now response.new) }
 {
-    let text = format!(in alloc; "{tag}")?;
+    let text = tag_text(alloc, &tag)?;
     if is_known(headers, text.as_bytes()) {
         add_own(alloc, document, response)?;
         return tell_known(response, text);
