@@ -146,7 +146,8 @@ def test_subclasses_are_what_they_are(shop: Replica) -> None:
     assert shop.update({"size": 1, "texts": ["t"]}) == []
 
 
-LONGEST = {"k" * 64: "x" * 1024, "ü" * 32: "ü" * 512, "1": {"2": {"3": {"4": {"5": {"6": {"7": {"8": (1 << 63) - 1}}}}}}}}
+DEEPEST = {"1": {"2": {"3": {"4": {"5": {"6": {"7": {"8": (1 << 63) - 1}}}}}}}}
+LONGEST: Dict[str, Any] = {"k" * 64: "x" * 1024, "ü" * 32: "ü" * 512, **DEEPEST}
 
 
 def test_the_longest_go_in(shop: Replica) -> None:
