@@ -12,8 +12,8 @@ use Rattle.rds_words.specs.declared.tasks.ValueWord.TheVariants as word
 use Rattle.rds_words.specs.Commands.{node_app}
 use Rattle.rds_words.specs.Entered.{Names}
 use Rattle.rds_words.specs.Raw.{token_words}
-use Rattle.rds_words.specs.Spelling.{Count, IsCounted}
-use Rattle.rds_words.specs.Task.{raw_word, words_in, words_of}
+use Rattle.rds_words.specs.Spelling.{Count, IsGivenWords}
+use Rattle.rds_words.specs.Task.{raw_word, words_in, task_words}
 use Rattle.rds_words.specs.Written.{AreData, HasNames, IsWritable, words_dashed, words_written}
 use Rattle.rds_words.proofs.ClearPlan.{clear_plan, clear_takes}
 use Rattle.rds_words.proofs.CommandWords.{node_on_words}
@@ -38,10 +38,10 @@ undashed name command words result meets are behind = (
 -- ---- a command without options
 
 module _ (command : Text) (count : Count) (plain : IsPlain command count) (name : Text) (given words : List Text) where
-  plain_dashed : IsCounted count given words → Names (name ∷ command ∷ codes "--" ∷ given) (command ∷ words)
+  plain_dashed : IsGivenWords count given words → Names (name ∷ command ∷ codes "--" ∷ given) (command ∷ words)
   plain_dashed is = plain.known.counted.named name given words is
 
-  plain_written : AreData given → IsCounted count given words → Names (name ∷ command ∷ given) (command ∷ words)
+  plain_written : AreData given → IsGivenWords count given words → Names (name ∷ command ∷ given) (command ∷ words)
   plain_written are is = undashed name command given (command ∷ words) plain.known.is.met are (plain_dashed is)
 
 -- ---- commands with names, or with a token
@@ -117,7 +117,7 @@ raw_written name file path kind.Counter are =
 
 -- ---- each task
 
-pub task_dashed : (name : Text) (task : Task) → HasNames task → Names (name ∷ words_dashed task) (words_of task)
+pub task_dashed : (name : Text) (task : Task) → HasNames task → Names (name ∷ words_dashed task) (task_words task)
 task_dashed name Join has = plain_dashed _ _ join_plain name [] _ (refl, refl)
 task_dashed name Sim has = plain_dashed _ _ sim_plain name [] _ (refl, refl)
 task_dashed name Files has = plain_dashed _ _ files_plain name [] _ (refl, refl)
@@ -194,7 +194,7 @@ task_dashed name (Diff file other) has = plain_dashed _ _ diff_plain name (file.
 task_dashed name (Watch words) has =
     watch_dashed name words.node.now words.path.now (option_map (λ t. t.now) words.token_file)
 
-pub task_written : (name : Text) (task : Task) → IsWritable task → Names (name ∷ words_written task) (words_of task)
+pub task_written : (name : Text) (task : Task) → IsWritable task → Names (name ∷ words_written task) (task_words task)
 task_written name Join is = plain_written _ _ join_plain name [] _ is.1 (refl, refl)
 task_written name Sim is = plain_written _ _ sim_plain name [] _ is.1 (refl, refl)
 task_written name Files is = plain_written _ _ files_plain name [] _ is.1 (refl, refl)

@@ -5,7 +5,7 @@ use Rattle.std.specs.List.{list_all, list_any}
 use Rattle.clap.specs.Words.{Text}
 use Rattle.rds_names.specs.Conditions.{and_left, and_right}
 use Rattle.rds_words.specs.Entered.{Names}
-use Rattle.rds_words.specs.Typed.{AreAllowed, AreTyped, AtMostOne, Form, HaveOptionsOf, IsAllowed, IsRest, Options, Part, has_none, has_value, many_values, no_value, one_value, typed_flag, typed_option, typed_word, values_among, words_among}
+use Rattle.rds_words.specs.Typed.{AreAllowed, AreTyped, AtMostOne, Form, HaveOptionsOf, IsAllowed, IsRest, Options, Part, is_bare, has_value, many_values, no_value, one_value, typed_flag, typed_option, typed_word, values_among, words_among}
 use Rattle.rds_words.specs.Written.{AreData, is_data}
 use Rattle.rds_words.proofs.PlanMeant.{means}
 use Rattle.rds_words.proofs.PlanWalk.{Plan, Takes}
@@ -55,7 +55,7 @@ abbrev is_had : Options → Typed → Bool
 is_had options (placed word) = true
 is_had options (apart name value) = list_any (has_value name) options
 is_had options (joined name value) = list_any (has_value name) options
-is_had options (alone name) = list_any (has_none name) options
+is_had options (alone name) = list_any (is_bare name) options
 
 have_options : (options : Options) (ts : List Typed) → list_all (is_had options) ts ≡ true → HaveOptionsOf options (parts_of ts)
 have_options options [] all = tt
@@ -65,7 +65,7 @@ have_options options (apart name value ∷ ts) all =
 have_options options (joined name value ∷ ts) all =
     let one = list_any (has_value name) options in (and_left one _ all, have_options options ts (and_right one _ all))
 have_options options (alone name ∷ ts) all =
-    let one = list_any (has_none name) options in (and_left one _ all, have_options options ts (and_right one _ all))
+    let one = list_any (is_bare name) options in (and_left one _ all, have_options options ts (and_right one _ all))
 
 abbrev is_once : List Text → Bool
 is_once [] = true
