@@ -169,7 +169,7 @@ pub fn are_same_names(name: &[u8], other: &[u8]) -> bool
 fn is_watched(asked: Asked) -> bool
     ensures { result ≡ is_watched asked }
 {
-    matches!(asked, Asked::Post(_) | Asked::Live)
+    matches!(asked, Asked::Post(_) | Asked::Change(_) | Asked::Live)
 }
 
 /// Whether it is asked for something that is shown to none without the token.

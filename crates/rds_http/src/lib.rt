@@ -1,7 +1,8 @@
 //! The HTTP service over a document in its file: what a request is answered, and what it changes. Read `routes`,
 //! `token` and `access` first, then `tag`, `asked`, `touched` and `tracked`, which has the document in its file. Then
-//! `replies`, `refusals`, `conditions`, `reading`, `pulling`, `metrics`, `lines`, `changing`, `login` and `live`. `site` puts them together;
-//! `meeting` has what a site asks of others, and they of it, and `news` what listeners are told.
+//! `replies`, `refusals`, `conditions`, `reading`, `pulling`, `metrics`, `lines`, `changing`, `putting`, `login` and
+//! `live`. `site` puts them together; `meeting` has what a site asks of others, and they of it, and `news` what
+//! listeners are told.
 #![tactic(auto)]
 
 mod access;
@@ -15,6 +16,7 @@ mod meeting;
 mod metrics;
 mod news;
 mod pulling;
+mod putting;
 mod reading;
 mod refusals;
 mod replies;
@@ -29,6 +31,7 @@ pub use access::Access;
 pub use asked::LONGEST_QUESTION;
 pub use metrics::{PeerCounts, PeerStanding};
 pub use rds_store::Lacks;
+pub use routes::is_edit;
 pub use site::Site;
 pub use tag::Tag;
 pub use token::Token;

@@ -127,14 +127,62 @@ impl Metrics {
             standings,
         } = self;
         let mut text = String::new(alloc);
-        push_line(&mut text, "rds_edits_total", "counter", *edits)?;
-        push_line(&mut text, "rds_edits_refused_total", "counter", *refused)?;
-        push_line(&mut text, "rds_takes_total", "counter", *takes)?;
-        push_line(&mut text, "rds_syncs_total", "counter", *syncs)?;
-        push_line(&mut text, "rds_requests_total", "counter", *requests)?;
-        push_line(&mut text, "rds_clients", "gauge", *clients as u64)?;
-        push_line(&mut text, "rds_listeners", "gauge", *listeners as u64)?;
-        push_line(&mut text, "rds_live_entries", "gauge", live as u64)?;
+        push_line(
+            &mut text,
+            "rds_edits_total",
+            "counter",
+            "Edits that were done.",
+            *edits,
+        )?;
+        push_line(
+            &mut text,
+            "rds_edits_refused_total",
+            "counter",
+            "Edits that were refused.",
+            *refused,
+        )?;
+        push_line(
+            &mut text,
+            "rds_takes_total",
+            "counter",
+            "Answers of other replicas that were taken.",
+            *takes,
+        )?;
+        push_line(
+            &mut text,
+            "rds_syncs_total",
+            "counter",
+            "How many times what had changed was kept.",
+            *syncs,
+        )?;
+        push_line(
+            &mut text,
+            "rds_requests_total",
+            "counter",
+            "Requests that were answered.",
+            *requests,
+        )?;
+        push_line(
+            &mut text,
+            "rds_clients",
+            "gauge",
+            "Connections.",
+            *clients as u64,
+        )?;
+        push_line(
+            &mut text,
+            "rds_listeners",
+            "gauge",
+            "Connections that are told of each change.",
+            *listeners as u64,
+        )?;
+        push_line(
+            &mut text,
+            "rds_live_entries",
+            "gauge",
+            "Live entries of the document.",
+            live as u64,
+        )?;
         push_peers(&mut text, *peers)?;
         if let Some(standings) = standings {
             push_standings(&mut text, standings)?;
@@ -192,25 +240,77 @@ fn push_peers(text: &mut String, peers: PeerCounts) -> Result<(), AllocError> {
         forks,
         is_behind,
     } = peers;
-    push_line(text, "rds_peers", "gauge", named as u64)?;
-    push_line(text, "rds_peers_met", "gauge", met as u64)?;
-    push_line(text, "rds_peers_forked", "gauge", forked as u64)?;
-    push_line(text, "rds_peer_refusals_total", "counter", refused)?;
-    push_line(text, "rds_peer_exchanges_total", "counter", exchanges)?;
-    push_line(text, "rds_caller_forks_total", "counter", forks)?;
-    push_line(text, "rds_behind", "gauge", u64::from(is_behind))
+    push_line(
+        text,
+        "rds_peers",
+        "gauge",
+        "Other nodes that are named.",
+        named as u64,
+    )?;
+    push_line(
+        text,
+        "rds_peers_met",
+        "gauge",
+        "Other nodes that were met when they were called last.",
+        met as u64,
+    )?;
+    push_line(
+        text,
+        "rds_peers_forked",
+        "gauge",
+        "Other nodes that have a fork of the document.",
+        forked as u64,
+    )?;
+    push_line(
+        text,
+        "rds_peer_refusals_total",
+        "counter",
+        "Exchanges with other nodes that were refused, or failed.",
+        refused,
+    )?;
+    push_line(
+        text,
+        "rds_peer_exchanges_total",
+        "counter",
+        "Exchanges with other nodes that went through.",
+        exchanges,
+    )?;
+    push_line(
+        text,
+        "rds_caller_forks_total",
+        "counter",
+        "Requests that came of a fork of the document.",
+        forks,
+    )?;
+    push_line(
+        text,
+        "rds_behind",
+        "gauge",
+        "Whether the file is older than what its replica has sent.",
+        u64::from(is_behind),
+    )
 }
 
 /// Adds the lines of each of the other nodes, whose names have no quotes: whether it was met when it was called last, and
 /// how long ago an exchange with it went through.
 fn push_standings(text: &mut String, standings: &[PeerStanding]) -> Result<(), AllocError> {
-    writeln!(text, "# TYPE rds_peer_met gauge")?;
+    push_head(
+        text,
+        "rds_peer_met",
+        "gauge",
+        "Whether the node was met when it was called last.",
+    )?;
     for standing in standings {
         let name = standing.name.as_str();
         let is_met = u8::from(standing.is_met);
         writeln!(text, "rds_peer_met{{peer=\"{name}\"}} {is_met}")?;
     }
-    writeln!(text, "# TYPE rds_peer_exchange_age_seconds gauge")?;
+    push_head(
+        text,
+        "rds_peer_exchange_age_seconds",
+        "gauge",
+        "Seconds since an exchange with the node went through.",
+    )?;
     for standing in standings {
         if let Some(seconds) = standing.ago {
             let name = standing.name.as_str();
@@ -223,8 +323,20 @@ fn push_standings(text: &mut String, standings: &[PeerStanding]) -> Result<(), A
     Ok(())
 }
 
-/// Adds the lines of one number: its type, and what it is.
-fn push_line(text: &mut String, name: &str, kind: &str, number: u64) -> Result<(), AllocError> {
-    writeln!(text, "# TYPE {name} {kind}")?;
+/// Adds the lines of one number: what it counts, its type, and what it is.
+fn push_line(
+    text: &mut String,
+    name: &str,
+    kind: &str,
+    help: &str,
+    number: u64,
+) -> Result<(), AllocError> {
+    push_head(text, name, kind, help)?;
     writeln!(text, "{name} {number}")
+}
+
+/// Adds what stands before a number: what it counts, and its type.
+fn push_head(text: &mut String, name: &str, kind: &str, help: &str) -> Result<(), AllocError> {
+    writeln!(text, "# HELP {name} {help}")?;
+    writeln!(text, "# TYPE {name} {kind}")
 }
