@@ -1,14 +1,15 @@
 //! The HTTP service over a document in its file: what a request is answered, and what it changes. Read `routes`,
 //! `token` and `access` first, then `tag`, `asked`, `touched` and `tracked`, which has the document in its file. Then
-//! `replies`, `refusals`, `conditions`, `reading`, `pulling`, `metrics`, `lines`, `changing`, `putting`, `login` and
-//! `live`. `site` puts them together; `meeting` has what a site asks of others, and they of it, and `news` what
-//! listeners are told.
+//! `replies`, `refusals`, `conditions`, `reading`, `pulling`, `families`, `metrics`, `lines`, `changing`, `putting`,
+//! `login` and `live`. `site` puts them together; `meeting` has what a site asks of others, and they of it, and `news`
+//! what listeners are told.
 #![tactic(auto)]
 
 mod access;
 mod asked;
 mod changing;
 mod conditions;
+mod families;
 mod lines;
 mod live;
 mod login;

@@ -2,6 +2,11 @@
 ghost use Rattle.std.specs.Prelude.{◌≡◌, IfOk, string_bytes};
 ghost use Rattle.rds_http.specs.Looks.{IsJson};
 
+use crate::families::{
+    BEHIND, CALLER_FORKS, CLIENTS, EDITS, EDITS_REFUSED, LISTENERS, LIVE_ENTRIES,
+    PEER_EXCHANGE_AGE, PEER_EXCHANGES, PEER_MET, PEER_REFUSALS, PEERS, PEERS_FORKED, PEERS_MET,
+    REQUESTS, SYNCS, TAKES,
+};
 use crate::site::Site;
 use rds_files::Disk;
 use rds_output::Reply;
@@ -127,62 +132,14 @@ impl Metrics {
             standings,
         } = self;
         let mut text = String::new(alloc);
-        push_line(
-            &mut text,
-            "rds_edits_total",
-            "counter",
-            "Edits that were done.",
-            *edits,
-        )?;
-        push_line(
-            &mut text,
-            "rds_edits_refused_total",
-            "counter",
-            "Edits that were refused.",
-            *refused,
-        )?;
-        push_line(
-            &mut text,
-            "rds_takes_total",
-            "counter",
-            "Answers of other replicas that were taken.",
-            *takes,
-        )?;
-        push_line(
-            &mut text,
-            "rds_syncs_total",
-            "counter",
-            "How many times what had changed was kept.",
-            *syncs,
-        )?;
-        push_line(
-            &mut text,
-            "rds_requests_total",
-            "counter",
-            "Requests that were answered.",
-            *requests,
-        )?;
-        push_line(
-            &mut text,
-            "rds_clients",
-            "gauge",
-            "Connections.",
-            *clients as u64,
-        )?;
-        push_line(
-            &mut text,
-            "rds_listeners",
-            "gauge",
-            "Connections that are told of each change.",
-            *listeners as u64,
-        )?;
-        push_line(
-            &mut text,
-            "rds_live_entries",
-            "gauge",
-            "Live entries of the document.",
-            live as u64,
-        )?;
+        EDITS.push(&mut text, *edits)?;
+        EDITS_REFUSED.push(&mut text, *refused)?;
+        TAKES.push(&mut text, *takes)?;
+        SYNCS.push(&mut text, *syncs)?;
+        REQUESTS.push(&mut text, *requests)?;
+        CLIENTS.push(&mut text, *clients as u64)?;
+        LISTENERS.push(&mut text, *listeners as u64)?;
+        LIVE_ENTRIES.push(&mut text, live as u64)?;
         push_peers(&mut text, *peers)?;
         if let Some(standings) = standings {
             push_standings(&mut text, standings)?;
@@ -240,77 +197,25 @@ fn push_peers(text: &mut String, peers: PeerCounts) -> Result<(), AllocError> {
         forks,
         is_behind,
     } = peers;
-    push_line(
-        text,
-        "rds_peers",
-        "gauge",
-        "Other nodes that are named.",
-        named as u64,
-    )?;
-    push_line(
-        text,
-        "rds_peers_met",
-        "gauge",
-        "Other nodes that were met when they were called last.",
-        met as u64,
-    )?;
-    push_line(
-        text,
-        "rds_peers_forked",
-        "gauge",
-        "Other nodes that have a fork of the document.",
-        forked as u64,
-    )?;
-    push_line(
-        text,
-        "rds_peer_refusals_total",
-        "counter",
-        "Exchanges with other nodes that were refused, or failed.",
-        refused,
-    )?;
-    push_line(
-        text,
-        "rds_peer_exchanges_total",
-        "counter",
-        "Exchanges with other nodes that went through.",
-        exchanges,
-    )?;
-    push_line(
-        text,
-        "rds_caller_forks_total",
-        "counter",
-        "Requests that came of a fork of the document.",
-        forks,
-    )?;
-    push_line(
-        text,
-        "rds_behind",
-        "gauge",
-        "Whether the file is older than what its replica has sent.",
-        u64::from(is_behind),
-    )
+    PEERS.push(text, named as u64)?;
+    PEERS_MET.push(text, met as u64)?;
+    PEERS_FORKED.push(text, forked as u64)?;
+    PEER_REFUSALS.push(text, refused)?;
+    PEER_EXCHANGES.push(text, exchanges)?;
+    CALLER_FORKS.push(text, forks)?;
+    BEHIND.push(text, u64::from(is_behind))
 }
 
 /// Adds the lines of each of the other nodes, whose names have no quotes: whether it was met when it was called last, and
 /// how long ago an exchange with it went through.
 fn push_standings(text: &mut String, standings: &[PeerStanding]) -> Result<(), AllocError> {
-    push_head(
-        text,
-        "rds_peer_met",
-        "gauge",
-        "Whether the node was met when it was called last.",
-    )?;
+    PEER_MET.push_head(text)?;
     for standing in standings {
         let name = standing.name.as_str();
         let is_met = u8::from(standing.is_met);
         writeln!(text, "rds_peer_met{{peer=\"{name}\"}} {is_met}")?;
     }
-    push_head(
-        text,
-        "rds_peer_exchange_age_seconds",
-        "gauge",
-        "Seconds since an exchange with the node went through.",
-    )?;
+    PEER_EXCHANGE_AGE.push_head(text)?;
     for standing in standings {
         if let Some(seconds) = standing.ago {
             let name = standing.name.as_str();
@@ -321,22 +226,4 @@ fn push_standings(text: &mut String, standings: &[PeerStanding]) -> Result<(), A
         }
     }
     Ok(())
-}
-
-/// Adds the lines of one number: what it counts, its type, and what it is.
-fn push_line(
-    text: &mut String,
-    name: &str,
-    kind: &str,
-    help: &str,
-    number: u64,
-) -> Result<(), AllocError> {
-    push_head(text, name, kind, help)?;
-    writeln!(text, "{name} {number}")
-}
-
-/// Adds what stands before a number: what it counts, and its type.
-fn push_head(text: &mut String, name: &str, kind: &str, help: &str) -> Result<(), AllocError> {
-    writeln!(text, "# HELP {name} {help}")?;
-    writeln!(text, "# TYPE {name} {kind}")
 }

@@ -126,7 +126,8 @@ fn tell_question(
     requires tag { IsTagOf document.now tag }
     ensures { OnOk result (ShowsQuestion headers.now document.now response.new) }
 {
-    let seen = seen_of(format!(in alloc; "{tag}")?, headers);
+    let text = format!(in alloc; "{tag}")?;
+    let seen = seen_of(text, headers);
     if seen.is_known {
         add_own(alloc, document, response)?;
         return tell_known(response, seen.tag);
@@ -180,7 +181,8 @@ fn show_view(
     ensures { OnOk result
         (Shows headers.now document.now.state json (told_in view_text document.now.state place.now) response.new) }
 {
-    let seen = seen_of(document_tag(alloc, document)?, headers);
+    let tag = document_tag(alloc, document)?;
+    let seen = seen_of(tag, headers);
     let told = view_at(alloc, document, &seen, place);
     show(alloc, told, JSON, seen, response)
 }
@@ -197,7 +199,8 @@ fn show_here(
     ensures { OnOk result
         (Shows headers.now document.now.state json (told_in here_text document.now.state place.now) response.new) }
 {
-    let seen = seen_of(document_tag(alloc, document)?, headers);
+    let tag = document_tag(alloc, document)?;
+    let seen = seen_of(tag, headers);
     let told = here_at(alloc, document, &seen, place);
     show(alloc, told, JSON, seen, response)
 }
@@ -230,7 +233,8 @@ fn tell_value(
     ensures { OnOk result
         (TellsOf headers.now (text_tag (string_bytes text)) json (string_bytes text) response.new) }
 {
-    let seen = seen_of(text_tag(alloc, text.as_bytes())?, headers);
+    let tag = text_tag(alloc, text.as_bytes())?;
+    let seen = seen_of(tag, headers);
     if seen.is_known {
         return tell_known(response, seen.tag);
     }
@@ -250,7 +254,8 @@ fn show_conflicts(
         (Shows headers.now document.now.state lines_of_json
         (told_in conflicts_text document.now.state place.now) response.new) }
 {
-    let seen = seen_of(document_tag(alloc, document)?, headers);
+    let tag = document_tag(alloc, document)?;
+    let seen = seen_of(tag, headers);
     let told = conflicts_at(alloc, document, &seen, place);
     show(alloc, told, LINES, seen, response)
 }
