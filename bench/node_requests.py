@@ -14,7 +14,7 @@ import time
 from plain_files import appended, change_text, file_text, read_file
 from plain_model import Replica, State, edited, grown, mark_of
 from plain_texts import tag_of
-from serving import HOST, LIMIT, NOBODY, TOKEN, UPGRADE, Node, Noted, killed, running, soon, want
+from serving import HOST, LIMIT, NOBODY, TOKEN, UPGRADE, Node, Noted, killed, listener, running, soon, want
 
 # A request, and below it the status, the kind of content and the body that are due. '|' ends a line of a body, and
 # '..' is anything.
@@ -508,12 +508,29 @@ def judge_places(node):
                 want(answer.headers.get("allow") == allowed, f"{what} is answered {answer}, where {allowed} is due")
             if answer.status == 200:
                 before[place] = now
-        due = b'{"counter":null,"reg":[-9223372036854775808],"set":[]}'
-        answer = asked("GET", "/value/u/b%C3%BCb/%2520")
-        with noted:
-            want(answer.body == due, f"what was put is told as {answer}")
-            want(answer.headers["etag"] == tag_of_text(due), f"what was put is told as {answer}")
+    with noted:
+        judge_put(node)
     noted.end()
+
+
+def judge_put(node):
+    """A value that is put counts as an edit, and is told to who listens: beside a set and a counter, which stay."""
+    node.answer("POST", "/edits", b'["add","put","x"]\n["inc","put",2]')
+    counts = [node.count(name) for name in ("rds_edits_total", "rds_edits_refused_total")]
+    heard = listener(node)
+    for body in b"7", b"oops", b"8":
+        node.answer("PUT", "/value/put", body)
+    for _ in range(2):
+        news = json.loads(heard.frame(LIMIT)[1])
+        want(news["paths"] == ["put"], f"who listens is told of a value that is put by {news}")
+    heard.socket.close()
+    told = [node.count(name) - count for name, count in zip(("rds_edits_total", "rds_edits_refused_total"), counts)]
+    want(told == [2, 1], f"two values that are put and a refused one are counted as {told}")
+    due = b'{"counter":2,"reg":[8],"set":["x"]}'
+    for method, text in ("GET", due), ("HEAD", b""):
+        answer = node.answer(method, "/value/put")
+        is_due = (answer.body, answer.headers["etag"]) == (text, tag_of_text(due))
+        want(is_due, f"{method} of a value that was put is answered {answer}")
 
 
 # Names that a node of the group a, b is given, one after the other, and what each is due to be answered.

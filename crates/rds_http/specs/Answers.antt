@@ -86,7 +86,7 @@ DoesPostUnless false post body old response new = DoesPost post body old respons
 
 -- what a body that is sent for a place is answered, and what it makes of the document
 abbrev pub DoesChange : Change → List ℕ → List ℕ → SiteValue → Response → SiteValue → Type 0
-DoesChange Changed.Edits place body old response new = AnswersEdits body old.document new.document response
+DoesChange Changed.Edits place body old response new = DoesPost Edits body old response new
 DoesChange Changed.Set place body old response new = SetsAt place body old.document new.document response
 
 -- that is done where what stands there meets the conditions of the request. Else that is told, and nothing is done

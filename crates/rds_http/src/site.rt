@@ -310,14 +310,7 @@ impl<H: Disk> Site<'_, H> {
     {
         let alloc = self.alloc;
         match change {
-            Change::Edits => edit(
-                alloc,
-                &mut self.reader,
-                &mut self.held,
-                &mut self.metrics,
-                body,
-                response,
-            ),
+            Change::Edits => self.do_post(Post::Edits, body, response),
             Change::Set => put(
                 alloc,
                 &mut self.held,
