@@ -212,6 +212,10 @@ def judge_comers(node, table):
     noted.end()
 
 
+# The lines of a family of numbers: what it is, in a sentence, and its type.
+HELPED = r"# HELP (\w+) [A-Z].*\.\n# TYPE \1 "
+
+
 def judge_heads(node):
     """The page, and the numbers."""
     page = node.answer("GET", "/")
@@ -232,11 +236,9 @@ def judge_heads(node):
     due |= {"rds_peers": 0, "rds_peers_met": 0, "rds_caller_forks_total": 0, "rds_behind": 0}
     for name, number in due.items():
         want(node.count(name) == number, f"{name} is {node.count(name)}, where {number} is due")
-    lines = node.answer("GET", "/metrics").body.decode().splitlines()
-    for help_line, type_line, line in zip(lines[::3], lines[1::3], lines[2::3]):
-        name = line.split(" ")[0]
-        is_due = help_line.startswith(f"# HELP {name} ") and type_line.startswith(f"# TYPE {name} ")
-        want(is_due, f"before {line} the metrics have {help_line} and {type_line}")
+    text = node.answer("GET", "/metrics").body.decode()
+    families, helped = (re.findall(rf"^{line}", text, re.M) for line in (r"# TYPE (\w+) (?:counter|gauge)$", HELPED))
+    want(len(families) == 17 and families == helped, f"the metrics are {families}, and those that tell what they are {helped}")
 
 
 def judge_pipes(node):
