@@ -32,7 +32,7 @@ use Rattle.rds_delta.specs.declared.row.Row.TheVariants.{Live, Dead, Count}
 use Rattle.rds_delta.proofs.LeastLaws.{least_above}
 use Rattle.rds_delta.proofs.Grouping.{certificate_is, grouped_certificate}
 use Rattle.rds_codec.specs.AnswerTexts.{answer}
-use Rattle.rds_answers.specs.Checked.{is_later, is_greater, is_all_above, same_run, same_which, same_row, certificate_of, least_state, passes, IsLeastDelta, IsOwnCertificate, PassesExactly}
+use Rattle.rds_answers.specs.Checked.{is_later, is_greater, is_all_above, is_same_run, same_which, same_row, certificate_of, least_state, passes, IsLeastDelta, IsOwnCertificate, PassesExactly}
 
 -- ---- equal rows
 
@@ -40,8 +40,8 @@ dots_decide : (d e : Dot) → Decides (same_dot d e) (d ≡ e)
 dots_decide d e = Decides-like (same_dot d e) (λ p. λ i. record { replica = p.0 i; seq = p.1 i }) (λ p. (ap (λ (x : Dot). x.replica) p, ap (λ (x : Dot). x.seq) p))
     (Decides-and _ _ (Decides-eqb d.replica e.replica) (Decides-eqb d.seq e.seq))
 
-runs_decide : (r s : Run) → Decides (same_run r s) (r ≡ s)
-runs_decide r s = Decides-like (same_run r s) (λ p. λ i. record { replica = p.0 i; lo = p.1.0 i; hi = p.1.1 i })
+runs_decide : (r s : Run) → Decides (is_same_run r s) (r ≡ s)
+runs_decide r s = Decides-like (is_same_run r s) (λ p. λ i. record { replica = p.0 i; lo = p.1.0 i; hi = p.1.1 i })
     (λ p. (ap (λ (x : Run). x.replica) p, (ap (λ (x : Run). x.lo) p, ap (λ (x : Run). x.hi) p)))
     (Decides-and _ _ (Decides-eqb r.replica s.replica) (Decides-and _ _ (Decides-eqb r.lo s.lo) (Decides-eqb r.hi s.hi)))
 

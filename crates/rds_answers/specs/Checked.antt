@@ -40,8 +40,8 @@ certificate_of g v = rows_of_claims (claims (ranks_in g) v)
 abbrev pub is_all_above : DigestValue → StateValue → Bool
 is_all_above g v = list_all (is_later g v) (map.keys v.lives) && list_all (is_greater g v) (map.keys v.counts)
 
-abbrev pub same_run : Run → Run → Bool
-same_run r s = (r.replica == s.replica) && ((r.lo == s.lo) && (r.hi == s.hi))
+abbrev pub is_same_run : Run → Run → Bool
+is_same_run r s = (r.replica == s.replica) && ((r.lo == s.lo) && (r.hi == s.hi))
 
 abbrev pub same_which : Which → Which → Bool
 same_which P P = true
@@ -50,7 +50,7 @@ same_which _ _ = false
 
 abbrev pub same_row : Row → Row → Bool
 same_row (Live d) (Live e) = same_dot d e
-same_row (Dead r p) (Dead s q) = same_run r s && (p == q)
+same_row (Dead r p) (Dead s q) = is_same_run r s && (p == q)
 same_row (Count k r w s p) (Count l t x u q) = bytes_eq k l && ((r == t) && (same_which w x && ((s == u) && (p == q))))
 same_row _ _ = false
 

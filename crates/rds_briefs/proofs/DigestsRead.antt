@@ -25,7 +25,7 @@ use Rattle.rds_codec.specs.DigestTexts.{IsDigestOf}
 use Rattle.rds_codec.specs.declared.limits.TheConstants.{LIMIT}
 use Rattle.rds_briefs.specs.BriefTexts.{runs_text}
 use Rattle.rds_briefs.specs.Briefs.{brief_text}
-use Rattle.rds_briefs.specs.RunsRead.{AreRead}
+use Rattle.rds_briefs.specs.RunsRead.{RunsAreRead}
 use Rattle.rds_briefs.proofs.Counted.{counts_within}
 
 -- ---- counters
@@ -69,7 +69,7 @@ module _ (replicas : ℕ) (g : DigestValue) (is : IsDigestOf replicas g) where
   seen_below = all_below replicas (runs_of g.seen) runs.maximal (λ d h. (is.dots d (sym (runs.same d) ∙ h)).1)
 
   -- the sets that were read are the digest's
-  module _ (seen live : Dots) (read : AreRead (runs_of g.seen) g.live seen live) where
+  module _ (seen live : Dots) (read : RunsAreRead (runs_of g.seen) g.live seen live) where
     pub seen_is : seen ≡ g.seen
     seen_is = set.same_set dots_total dots_exact seen g.seen (λ d. read.each_seen d ∙ runs.same d)
 

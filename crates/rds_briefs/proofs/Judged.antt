@@ -7,7 +7,7 @@ use Rattle.rds_codec.specs.declared.limits.TheConstants.{LIMIT}
 use Rattle.rds_codec.specs.Decoding.{IsOtherFault, Decodes}
 use Rattle.rds_codec.specs.Kinds.{Kind}
 use Rattle.rds_bytes.proofs.Format.{err_is, failed, done}
-use Rattle.rds_briefs.specs.Briefs.{IsRefusal}
+use Rattle.rds_briefs.specs.Briefs.{RefusesBrief}
 
 module _ {V : Type 0} (kind : Kind V) (bytes : List ℕ) where
   pub decodes_long : LIMIT < length bytes → Decodes kind bytes (Err TooLong)
@@ -25,16 +25,16 @@ module _ {V : Type 0} (kind : Kind V) (bytes : List ℕ) where
     no_long : {A : Type 0} → LIMIT < length bytes → A
     no_long lt = absurd (let none : ⊥ = omega arith in none)
 
-    kept : (e : Fault) → IsRefusal e → e ≡ TooLong → ⊥
+    kept : (e : Fault) → RefusesBrief e → e ≡ TooLong → ⊥
     kept e h is = elim h [ inl m ↦ (let bad : Memory ≡ TooLong = sym m ∙ is in cc) | inr d ↦ elim d [ inl x ↦ (let bad : Cut ≡ TooLong = sym x ∙ is in cc) | inr y ↦ (let bad : Bad ≡ TooLong = sym y ∙ is in cc) ] ]
 
-    not_extra : (e : Fault) → IsRefusal e → e ≡ Extra → ⊥
+    not_extra : (e : Fault) → RefusesBrief e → e ≡ Extra → ⊥
     not_extra e h is = elim h [ inl m ↦ (let bad : Memory ≡ Extra = sym m ∙ is in cc) | inr d ↦ elim d [ inl x ↦ (let bad : Cut ≡ Extra = sym x ∙ is in cc) | inr y ↦ (let bad : Bad ≡ Extra = sym y ∙ is in cc) ] ]
 
-    known : (e : Fault) → IsRefusal e → IsOtherFault e
+    known : (e : Fault) → RefusesBrief e → IsOtherFault e
     known e h = elim h [ inl m ↦ inl m | inr d ↦ inr (inr (inr d)) ]
 
-    pub decodes_refused : (e : Fault) → IsRefusal e → ((v : V) (rest : List ℕ) → kind.is_value v → bytes ≡ kind.text v ++ rest → e ≡ Memory) → Decodes kind bytes (Err e)
+    pub decodes_refused : (e : Fault) → RefusesBrief e → ((v : V) (rest : List ℕ) → kind.is_value v → bytes ≡ kind.text v ++ rest → e ≡ Memory) → Decodes kind bytes (Err e)
     decodes_refused e one text = record {
       value = tt;
       found = λ v le h. inr (ap (λ (x : Fault). failed {A = V} x) (text v [] h.is_value (h.spelled ∙ sym (append-nil (kind.text v)))));

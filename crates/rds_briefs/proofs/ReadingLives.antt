@@ -7,7 +7,7 @@ use Rattle.rds_dots.specs.declared.dot.Dot.{Dot}
 use Rattle.rds_dots.specs.declared.dot.Run.{Run}
 use Rattle.rds_dots.specs.Dots.{Dots, in_run}
 use Rattle.rds_briefs.specs.Lives.{Lives, bit, byte_from}
-use Rattle.rds_briefs.specs.ReadLives.{is_among, HasLives}
+use Rattle.rds_briefs.specs.ReadLives.{is_in_stretch, HasLives}
 use Rattle.rds_briefs.proofs.BitSteps.{byte_more}
 
 -- ---- dots among others
@@ -52,16 +52,16 @@ or_nothing false false x h = refl
 module _ (f : Lives) (replica p : ℕ) where
   -- nothing came to the set as yet
   pub lives_begin : (s : Dots) (k : ℕ) → k ≡ 0 → HasLives f replica p k s s
-  lives_begin s k h d = or_nothing (set.contains s d) (is_among replica p k d) (f d.seq) (ap (λ n. is_among replica p n d) h ∙ none_among d.replica replica d.seq p)
+  lives_begin s k h d = or_nothing (set.contains s d) (is_in_stretch replica p k d) (f d.seq) (ap (λ n. is_in_stretch replica p n d) h ∙ none_among d.replica replica d.seq p)
 
   -- so many more, of which the lives are known
   pub lives_more : (q j m : ℕ) (old now new : Dots) (y : Lives) → q ≡ p + j → HasLives f replica p j old now → HasLives y replica q m now new → ((i : ℕ) → q ≤ i → i < q + m → y i ≡ f i) → HasLives f replica p (j + m) old new
   lives_more q j m old now new y at before then same d =
-      let there : is_among replica q m d ≡ is_among replica (p + j) m d = ap (λ n. is_among replica n m d) at in
+      let there : is_in_stretch replica q m d ≡ is_in_stretch replica (p + j) m d = ap (λ n. is_in_stretch replica n m d) at in
       then d
-      ∙ ap (λ b. b || (is_among replica q m d && y d.seq)) (before d)
-      ∙ both (set.contains old d) (is_among replica p j d) (is_among replica q m d) (f d.seq) (y d.seq) (λ h. same d.seq (among_from d.replica replica d.seq q m h) (among_to d.replica replica d.seq q m h))
-      ∙ ap (λ b. set.contains old d || ((is_among replica p j d || b) && f d.seq)) there
+      ∙ ap (λ b. b || (is_in_stretch replica q m d && y d.seq)) (before d)
+      ∙ both (set.contains old d) (is_in_stretch replica p j d) (is_in_stretch replica q m d) (f d.seq) (y d.seq) (λ h. same d.seq (among_from d.replica replica d.seq q m h) (among_to d.replica replica d.seq q m h))
+      ∙ ap (λ b. set.contains old d || ((is_in_stretch replica p j d || b) && f d.seq)) there
       ∙ ap (λ b. set.contains old d || (b && f d.seq)) (sym (more_among d.replica replica d.seq p j m))
 
 -- ---- a stretch that was put into the set
@@ -78,11 +78,11 @@ or_dead false true = refl
 or_dead false false = refl
 
 pub run_put : (replica p m : ℕ) (old new : Dots) → 0 < m → (let run : Run = record { replica = replica; lo = p; hi = p + m - 1 } in (d : Dot) → set.contains new d ≡ (in_run run d || set.contains old d)) → HasLives (λ _. true) replica p m old new
-run_put replica p m old new h put d = put d ∙ ap (λ b. b || set.contains old d) (run_among d.replica replica d.seq p m h) ∙ or_swap (is_among replica p m d) (set.contains old d)
+run_put replica p m old new h put d = put d ∙ ap (λ b. b || set.contains old d) (run_among d.replica replica d.seq p m h) ∙ or_swap (is_in_stretch replica p m d) (set.contains old d)
 
 pub none_put : (replica p m : ℕ) (b : Bool) (s : Dots) → (b && ltb 0 m) ≡ false → HasLives (λ _. b) replica p m s s
-none_put replica p zero b s h d = or_nothing (set.contains s d) (is_among replica p 0 d) b (none_among d.replica replica d.seq p)
-none_put replica p (suc m) false s h d = or_dead (set.contains s d) (is_among replica p (suc m) d)
+none_put replica p zero b s h d = or_nothing (set.contains s d) (is_in_stretch replica p 0 d) b (none_among d.replica replica d.seq p)
+none_put replica p (suc m) false s h d = or_dead (set.contains s d) (is_in_stretch replica p (suc m) d)
 none_put replica p (suc m) true s h d = absurd (false≢true (sym h ∙ positive m))
   where
     positive : (m : ℕ) → ltb 0 (suc m) ≡ true

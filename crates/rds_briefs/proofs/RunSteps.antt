@@ -15,9 +15,9 @@ use Rattle.rds_dots.specs.Runs.{covers, place, start, stop, begins_past, are_max
 use Rattle.rds_bytes.specs.declared.packed.TheConstants.{MAX_PACKED}
 use Rattle.rds_bytes.specs.Packed.{packed_text, packed_text_up_to}
 use Rattle.rds_briefs.specs.Lives.{lives_in}
-use Rattle.rds_briefs.specs.BriefTexts.{lives_text, run_text, runs_text}
-use Rattle.rds_briefs.specs.ReadLives.{is_among, HasLives}
-use Rattle.rds_briefs.specs.RunsRead.{AreRead}
+use Rattle.rds_briefs.specs.BriefTexts.{lives_text, brief_run_text, runs_text}
+use Rattle.rds_briefs.specs.ReadLives.{is_in_stretch, HasLives}
+use Rattle.rds_briefs.specs.RunsRead.{RunsAreRead}
 use Rattle.rds_briefs.proofs.Shorter.{next_run_text, no_run_text}
 
 -- ---- the text of runs at the front of bytes
@@ -39,15 +39,15 @@ zero_text : packed_text 0 ≡ 0 ∷ []
 unfolding packed_text_up_to
 zero_text = refl
 
-run_front : (lives : Dots) (r : Run) (more : List ℕ) → run_text lives r ++ more ≡ packed_text r.lo ++ (r.replica ∷ (packed_text (r.hi - r.lo) ++ (lives_of lives r ++ more)))
-unfolding run_text
+run_front : (lives : Dots) (r : Run) (more : List ℕ) → brief_run_text lives r ++ more ≡ packed_text r.lo ++ (r.replica ∷ (packed_text (r.hi - r.lo) ++ (lives_of lives r ++ more)))
+unfolding brief_run_text
 run_front lives r more =
     append_assoc (packed_text r.lo) (r.replica ∷ (packed_text (r.hi - r.lo) ++ lives_of lives r)) more
     ∙ ap (λ (l : List ℕ). packed_text r.lo ++ (r.replica ∷ l)) (append_assoc (packed_text (r.hi - r.lo)) (lives_of lives r) more)
 
 pub runs_front : (lives : Dots) (rs : List Run) (end : List ℕ) → runs_text lives rs ++ end ≡ packed_text (head rs) ++ behind lives rs end
 runs_front lives [] end = ap (λ (l : List ℕ). l ++ end) (no_run_text lives ∙ sym zero_text)
-runs_front lives (r ∷ rs) end = ap (λ (l : List ℕ). l ++ end) (next_run_text lives r rs) ∙ append_assoc (run_text lives r) (runs_text lives rs) end ∙ run_front lives r (runs_text lives rs ++ end)
+runs_front lives (r ∷ rs) end = ap (λ (l : List ℕ). l ++ end) (next_run_text lives r rs) ∙ append_assoc (brief_run_text lives r) (runs_text lives rs) end ∙ run_front lives r (runs_text lives rs ++ end)
 
 -- ---- what was read, and what is left
 
@@ -150,10 +150,10 @@ module _ (replicas : ℕ) (all : List Run) (lives seen live : Dots) (rest end : 
   runs_text_front = is.bytes ∙ runs_front lives is.left end
 
   -- a 0 ends them
-  pub runs_end : (after : List ℕ) → 0 ≡ head is.left → after ≡ behind lives is.left end → (after ≡ end) × AreRead all lives seen live
+  pub runs_end : (after : List ℕ) → 0 ≡ head is.left → after ≡ behind lives is.left end → (after ≡ end) × RunsAreRead all lives seen live
   runs_end after none behind_is = ended is.left is.maximal none behind_is is.each_seen
     where
-      ended : (left : List Run) → are_maximal left ≡ true → 0 ≡ head left → after ≡ behind lives left end → ((d : Dot) → covers all d ≡ (set.contains seen d || covers left d)) → (after ≡ end) × AreRead all lives seen live
+      ended : (left : List Run) → are_maximal left ≡ true → 0 ≡ head left → after ≡ behind lives left end → ((d : Dot) → covers all d ≡ (set.contains seen d || covers left d)) → (after ≡ end) × RunsAreRead all lives seen live
       ended [] max e b s =
           (b, record { each_seen = λ d. or_none (covers all d) (set.contains seen d) (s d); each_live = λ d. is.each_live d ∙ ap (λ x. x && set.contains lives d) (or_none (covers all d) (set.contains seen d) (s d)) })
       ended (r ∷ rs) max e b s = (let one = (parts_of r rs max).bounds.one in absurd (omega arith))
@@ -205,11 +205,11 @@ runs_go_on replicas all lives seen live seen' live' after rest end last lo repli
       within = omega (arith, most, to);
       each_seen = λ d. swapped (covers all d) (set.contains seen d) (in_run run d) (covers next.rs d) (next.each_seen d) ∙ ap (λ b. b || covers next.rs d) (sym (put d ∙ ap (λ (r : Run). in_run r d || set.contains seen d) same));
       each_live = λ d. (
-          let among : is_among replica lo (hi + 1 - lo) d ≡ in_run here d = run_is d.replica d.seq replica lo hi (omega (arith, rises, begins, to)) in
+          let among : is_in_stretch replica lo (hi + 1 - lo) d ≡ in_run here d = run_is d.replica d.seq replica lo hi (omega (arith, rises, begins, to)) in
           let mine : in_run here d ≡ true → lives_in lives run.replica d.seq ≡ set.contains lives d =
           λ h. ap (λ (x : Dot). set.contains lives x) (dot_is d run.replica (same_replica d.replica replica lo d.seq hi h ∙ whose)) in
           got d
-          ∙ ap (λ b. b || (is_among replica lo (hi + 1 - lo) d && lives_in lives run.replica d.seq)) (is_live d)
+          ∙ ap (λ b. b || (is_in_stretch replica lo (hi + 1 - lo) d && lives_in lives run.replica d.seq)) (is_live d)
           ∙ ap (λ b. (set.contains seen d && set.contains lives d) || (b && lives_in lives run.replica d.seq)) among
           ∙ ap (λ b. (set.contains seen d && set.contains lives d) || b) (and_when (in_run here d) _ _ mine)
           ∙ live_more (set.contains seen d) (in_run here d) (set.contains lives d)

@@ -9,7 +9,7 @@ use Rattle.std.proofs.lemmas.List.Concat.{flat_map-cons}
 use Rattle.rds_bytes.specs.Packed.{packed_text}
 use Rattle.rds_briefs.specs.declared.text.Text.{Text}
 use Rattle.rds_briefs.specs.Lives.{Lives, lives_in}
-use Rattle.rds_briefs.specs.BriefTexts.{lengths_text, bits_text, lives_text, run_text, runs_text}
+use Rattle.rds_briefs.specs.BriefTexts.{lengths_text, bits_text, lives_text, brief_run_text, runs_text}
 use Rattle.rds_briefs.specs.Texts.{Extends, capped}
 use Rattle.rds_briefs.proofs.BitSteps.{bytes_length}
 use Rattle.rds_briefs.proofs.Putting.{extends_then}
@@ -54,16 +54,16 @@ module _ (f : Lives) (p k x : ℕ) (is : x ≡ capped (length (lengths_text f p 
 -- ---- runs
 
 pub run_put : (live : Dots) (r : Run) (a b c d e : Text) → Extends a b (packed_text r.lo) → Extends b c (r.replica ∷ []) → Extends c d (packed_text (r.hi - r.lo))
-    → Extends d e (lives_text (lives_in live r.replica) r.lo (r.hi + 1 - r.lo)) → Extends a e (run_text live r)
-unfolding run_text
+    → Extends d e (lives_text (lives_in live r.replica) r.lo (r.hi + 1 - r.lo)) → Extends a e (brief_run_text live r)
+unfolding brief_run_text
 run_put live r a b c d e p q s t =
     let lives = lives_text (lives_in live r.replica) r.lo (r.hi + 1 - r.lo) in
     let more = packed_text (r.hi - r.lo) in
     extends_then a b e (packed_text r.lo) (r.replica ∷ (more ++ lives)) p (extends_then b c e (r.replica ∷ []) (more ++ lives) q (extends_then c d e more lives s t))
 
-pub next_run_text : (live : Dots) (r : Run) (rs : List Run) → runs_text live (r ∷ rs) ≡ run_text live r ++ runs_text live rs
+pub next_run_text : (live : Dots) (r : Run) (rs : List Run) → runs_text live (r ∷ rs) ≡ brief_run_text live r ++ runs_text live rs
 unfolding runs_text
-next_run_text live r rs = ap (λ (l : List ℕ). l ++ 0 ∷ []) (flat_map-cons (run_text live) r rs) ∙ append_assoc (run_text live r) (flat_map (run_text live) rs) (0 ∷ [])
+next_run_text live r rs = ap (λ (l : List ℕ). l ++ 0 ∷ []) (flat_map-cons (brief_run_text live) r rs) ∙ append_assoc (brief_run_text live r) (flat_map (brief_run_text live) rs) (0 ∷ [])
 
 pub no_run_text : (live : Dots) → runs_text live [] ≡ 0 ∷ []
 unfolding runs_text

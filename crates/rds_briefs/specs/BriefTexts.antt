@@ -20,10 +20,10 @@ lives_text f p k =
     if nat_le (length (lengths_text f p k)) (length (bits_text f p k)) then 0 ∷ lengths_text f p k else 1 ∷ bits_text f p k
 
 -- where a run of seen dots begins, whose it is, how far it goes on, and which of its dots are live
-unfoldable pub run_text : Dots → Run → List ℕ
-run_text live r =
+unfoldable pub brief_run_text : Dots → Run → List ℕ
+brief_run_text live r =
     packed_text r.lo ++ (r.replica ∷ (packed_text (r.hi - r.lo) ++ lives_text (lives_in live r.replica) r.lo (r.hi + 1 - r.lo)))
 
 -- a 0, which no run begins with, ends them
 unfoldable pub runs_text : Dots → List Run → List ℕ
-runs_text live rs = flat_map (run_text live) rs ++ 0 ∷ []
+runs_text live rs = flat_map (brief_run_text live) rs ++ 0 ∷ []

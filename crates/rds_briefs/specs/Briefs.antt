@@ -18,5 +18,5 @@ abbrev pub brief_kind : ℕ → Kind DigestValue
 brief_kind replicas = record { is_value = IsDigestOf replicas; text = brief_text }
 
 -- why bytes have no brief in front: memory ran out, or they end inside a part, or a part that is there is none
-abbrev pub IsRefusal : Fault → Type 0
-IsRefusal e = (e ≡ Memory) ⊎ ((e ≡ Cut) ⊎ (e ≡ Bad))
+abbrev pub RefusesBrief : Fault → Type 0
+RefusesBrief e = (e ≡ Memory) ⊎ ((e ≡ Cut) ⊎ (e ≡ Bad))

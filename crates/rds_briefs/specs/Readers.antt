@@ -5,6 +5,6 @@ use Rattle.rds_names.specs.declared.fault.Fault.{Fault}
 use Rattle.rds_names.specs.declared.fault.Fault.TheVariants.{Memory}
 
 -- it succeeded so, unless memory ran out
-abbrev pub Meets : {X : Type 0} → (X → Type 0) → Result X Fault → Type 0
-Meets Is (Ok x) = Is x
-Meets Is (Err e) = e ≡ Memory
+abbrev pub OrMemory : {X : Type 0} → (X → Type 0) → Result X Fault → Type 0
+OrMemory Is (Ok x) = Is x
+OrMemory Is (Err e) = e ≡ Memory

@@ -7,6 +7,6 @@ use Rattle.rds_dots.specs.Dots.{Dots}
 use Rattle.rds_dots.specs.Runs.{covers}
 
 -- the dots of the runs were seen, and those of them that a set has are live
-pub record AreRead (rs : List Run) (lives seen live : Dots) : Type 0 where
+pub record RunsAreRead (rs : List Run) (lives seen live : Dots) : Type 0 where
   pub each_seen : (d : Dot) → set.contains seen d ≡ covers rs d
   pub each_live : (d : Dot) → set.contains live d ≡ (covers rs d && set.contains lives d)

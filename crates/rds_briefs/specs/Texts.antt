@@ -7,10 +7,10 @@ abbrev pub capped : ℕ → ℕ
 capped n = if nat_lt n 18446744073709551615 then n else 18446744073709551615
 
 -- its bytes while they are kept, and how many they are
-pub record Holds (x : Text) (t : List ℕ) : Type 0 where
+pub record HoldsBriefText (x : Text) (t : List ℕ) : Type 0 where
   pub bytes : x.is_kept ≡ true → x.bytes.items ≡ t
   pub length : x.length ≡ capped (length t)
 
 -- whatever text was held, these bytes were put behind it
 abbrev pub Extends : Text → Text → List ℕ → Type 0
-Extends old new more = (t : List ℕ) → Holds old t → Holds new (t ++ more)
+Extends old new more = (t : List ℕ) → HoldsBriefText old t → HoldsBriefText new (t ++ more)

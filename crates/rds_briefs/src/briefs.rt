@@ -11,9 +11,9 @@ ghost use Rattle.rds_codec.specs.Decoding.{Decodes, ReadsAll};
 ghost use Rattle.rds_codec.specs.DigestTexts.{IsDigestOf};
 ghost use Rattle.rds_codec.specs.Writing.{Encodes};
 ghost use Rattle.rds_codec.specs.declared.limits.TheConstants.{LIMIT};
-ghost use Rattle.rds_briefs.specs.Briefs.{IsRefusal, brief_kind, brief_text};
+ghost use Rattle.rds_briefs.specs.Briefs.{RefusesBrief, brief_kind, brief_text};
 ghost use Rattle.rds_briefs.specs.ReadBriefs.{brief_at, cut_as_bad};
-ghost use Rattle.rds_briefs.specs.Readers.{Meets};
+ghost use Rattle.rds_briefs.specs.Readers.{OrMemory};
 
 use crate::runs::read_runs;
 use crate::text::Text;
@@ -56,7 +56,7 @@ fn read_front<'a, U: Unfinished>(
 fn read_counters(alloc: Global, replicas: u16, bytes: &[u8]) -> Result<(Counts, &[u8]), Fault>
     ensures are { IfOk result (λ x. AreCountsOf replicas x.0) }
     ensures text { (m : Counted) (rest : List ℕ) → AreCountsOf replicas m → length (count_rows m) < 2 ^ 32
-        → bytes.now ≡ counters_text m ++ rest → Meets (λ x. (x.0 ≡ m) × (x.1.now ≡ rest)) result }
+        → bytes.now ≡ counters_text m ++ rest → OrMemory (λ x. (x.0 ≡ m) × (x.1.now ≡ rest)) result }
 {
     let (counts, rest) = read_front(alloc, unfinished_counters(alloc, replicas), bytes)?;
     Ok((counts, rest))
@@ -67,7 +67,7 @@ fn read_digest<S: DotSet>(alloc: Global, replicas: u16, bytes: &[u8]) -> Result<
     requires within { length bytes.now ≤ LIMIT }
     ensures value { IfOk result (λ digest. IsDigestOf replicas digest) }
     ensures text { (g : DigestValue) (rest : List ℕ) → IsDigestOf replicas g → bytes.now ≡ brief_text g ++ rest
-        → Meets (λ digest. digest ≡ g) result }
+        → OrMemory (λ digest. digest ≡ g) result }
 {
     let (sets, rest) = read_runs::<S>(alloc, replicas, bytes)?;
     let (counts, _) = read_counters(alloc, replicas, rest)?;
@@ -107,7 +107,7 @@ fn after_brief<'a, S: DotSet>(
 
 /// Why bytes have no brief in front.
 fn refusal(fault: Fault) -> Fault
-    ensures one { IsRefusal result }
+    ensures one { RefusesBrief result }
     ensures memory { fault ≡ Memory → result ≡ Memory }
 {
     match fault {
@@ -128,8 +128,8 @@ fn read_brief<'a, S: DotSet>(
     requires { length bytes.now ≤ LIMIT }
     ensures value { IfOk result (λ x. IsDigestOf replicas x.0 × (bytes.now ≡ brief_text x.0 ++ x.1.now)) }
     ensures text { (g : DigestValue) (rest : List ℕ) → IsDigestOf replicas g → bytes.now ≡ brief_text g ++ rest
-        → Meets (λ x. (x.0 ≡ g) × (x.1.now ≡ rest)) result }
-    ensures fault { IfErr result IsRefusal }
+        → OrMemory (λ x. (x.0 ≡ g) × (x.1.now ≡ rest)) result }
+    ensures fault { IfErr result RefusesBrief }
 {
     let digest = match read_digest::<S>(alloc, replicas, bytes) {
         Ok(digest) => digest,

@@ -9,7 +9,7 @@ ghost use Rattle.rds_bytes.specs.Packed.{packed_text};
 ghost use Rattle.rds_briefs.specs.Lives.{Lives, byte_from};
 ghost use Rattle.rds_briefs.specs.BriefTexts.{lengths_text, bits_text, lives_text};
 ghost use Rattle.rds_briefs.specs.ReadLives.{HasLives};
-ghost use Rattle.rds_briefs.specs.Readers.{Meets};
+ghost use Rattle.rds_briefs.specs.Readers.{OrMemory};
 
 use crate::writing::in_a_byte;
 use rds_bytes::{packed_numbers_have_one_text, read_byte, read_packed};
@@ -19,7 +19,7 @@ use rds_names::Fault;
 /// A packed number, and the bytes after it.
 pub fn take_packed(bytes: &[u8]) -> Result<(u64, &[u8]), Fault>
     ensures text { (n : ℕ) (rest : List ℕ) → n ≤ MAX_PACKED → bytes.now ≡ packed_text n ++ rest
-        → Meets (λ x. (x.0 ≡ n) × (x.1.now ≡ rest)) result }
+        → OrMemory (λ x. (x.0 ≡ n) × (x.1.now ≡ rest)) result }
     ensures fewer { IfOk result (λ x. length x.1.now < length bytes.now) }
 {
     packed_numbers_have_one_text();
@@ -38,7 +38,7 @@ fn read_lengths<'a, S: DotSet>(
     requires some { 1 ≤ count }
     requires most { first.seq + count ≤ MAX_SEQ + 1 }
     ensures { (f : Lives) (rest : List ℕ) → bytes.now ≡ lengths_text f first.seq count ++ rest
-        → Meets (λ left. (left.now ≡ rest)
+        → OrMemory (λ left. (left.now ≡ rest)
         × HasLives f first.replica first.seq count (S.contents live.old) (S.contents live.new)) result }
 {
     let mut rest = bytes;
@@ -69,7 +69,7 @@ fn put_stretch<S: DotSet>(
 ) -> Result<(), Fault>
     requires from_one { 1 ≤ seq }
     requires most { seq + length ≤ MAX_SEQ + 1 }
-    ensures { Meets (λ _. HasLives (λ _. is_live) replica seq length (S.contents live.old) (S.contents live.new))
+    ensures { OrMemory (λ _. HasLives (λ _. is_live) replica seq length (S.contents live.old) (S.contents live.new))
         result }
 {
     if !is_live || length == 0 {
@@ -87,7 +87,7 @@ fn put_byte<S: DotSet>(live: &mut S, first: Dot, count: u64, byte: u8) -> Result
     requires from_one { 1 ≤ first.seq }
     requires most { first.seq + count ≤ MAX_SEQ + 1 }
     ensures { (f : Lives) → byte ≡ byte_from f first.seq count
-        → Meets (λ _. HasLives f first.replica first.seq count (S.contents live.old) (S.contents live.new)) result }
+        → OrMemory (λ _. HasLives f first.replica first.seq count (S.contents live.old) (S.contents live.new)) result }
 {
     let mut seq = first.seq;
     let mut left = count;
@@ -111,7 +111,7 @@ fn read_bits<'a, S: DotSet>(
     requires from_one { 1 ≤ first.seq }
     requires most { first.seq + count ≤ MAX_SEQ + 1 }
     ensures { (f : Lives) (rest : List ℕ) → bytes.now ≡ bits_text f first.seq count ++ rest
-        → Meets (λ left. (left.now ≡ rest)
+        → OrMemory (λ left. (left.now ≡ rest)
         × HasLives f first.replica first.seq count (S.contents live.old) (S.contents live.new)) result }
 {
     let mut rest = bytes;
@@ -143,7 +143,7 @@ pub fn read_lives<'a, S: DotSet>(
     requires some { 1 ≤ count }
     requires most { first.seq + count ≤ MAX_SEQ + 1 }
     ensures { (f : Lives) (rest : List ℕ) → bytes.now ≡ lives_text f first.seq count ++ rest
-        → Meets (λ left. (left.now ≡ rest)
+        → OrMemory (λ left. (left.now ≡ rest)
         × HasLives f first.replica first.seq count (S.contents live.old) (S.contents live.new)) result }
 {
     let (form, rest) = read_byte(bytes)?;

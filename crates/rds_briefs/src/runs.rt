@@ -9,8 +9,8 @@ ghost use Rattle.rds_dots.specs.Dots.{Dots, comes_after};
 ghost use Rattle.rds_dots.specs.Runs.{are_maximal};
 ghost use Rattle.rds_bytes.specs.Packed.{packed_text};
 ghost use Rattle.rds_briefs.specs.BriefTexts.{runs_text};
-ghost use Rattle.rds_briefs.specs.Readers.{Meets};
-ghost use Rattle.rds_briefs.specs.RunsRead.{AreRead};
+ghost use Rattle.rds_briefs.specs.Readers.{OrMemory};
+ghost use Rattle.rds_briefs.specs.RunsRead.{RunsAreRead};
 
 use crate::reading::{read_lives, take_packed};
 use rds_bytes::read_byte;
@@ -26,7 +26,7 @@ fn read_place(replicas: u16, lo: u64, bytes: &[u8]) -> Result<((u8, u64), &[u8])
     ensures byte { IfOk result (λ x. x.0.0 < 256) }
     ensures text { (replica hi : ℕ) (rest : List ℕ) → replica < replicas → lo ≤ hi → hi ≤ MAX_SEQ
         → bytes.now ≡ replica ∷ (packed_text (hi - lo) ++ rest)
-        → Meets (λ x. (x.0.0 ≡ replica) × ((x.0.1 ≡ hi) × (x.1.now ≡ rest))) result }
+        → OrMemory (λ x. (x.0.0 ≡ replica) × ((x.0.1 ≡ hi) × (x.1.now ≡ rest))) result }
 {
     let (replica, rest) = read_byte(bytes)?;
     let (more, rest) = take_packed(rest)?;
@@ -52,7 +52,7 @@ pub fn read_runs<'a, S: DotSet>(
     ensures below { IfOk result (λ x. (d : Dot) → set.contains (S.contents x.0.0) d ≡ true → d.replica < replicas) }
     ensures text { (rs : List Run) (lives : Dots) (rest : List ℕ) → are_maximal rs ≡ true
         → AllByRecursion (λ (r : Run). r.replica < replicas) rs → bytes.now ≡ runs_text lives rs ++ rest
-        → Meets (λ x. (x.1.now ≡ rest) × AreRead rs lives (S.contents x.0.0) (S.contents x.0.1)) result }
+        → OrMemory (λ x. (x.1.now ≡ rest) × RunsAreRead rs lives (S.contents x.0.0) (S.contents x.0.1)) result }
 {
     let mut seen = S::empty(alloc);
     let mut live = S::empty(alloc);

@@ -3,7 +3,7 @@ ghost use Rattle.std.specs.Prelude.{◌≡◌, ◌≤◌, ◌+◌, true, List, [
 ghost use Rattle.rds_bytes.specs.Packed.{packed_text};
 ghost use Rattle.rds_bytes.specs.Spelling.{counters_text};
 ghost use Rattle.rds_codec.specs.Writing.{Encodes};
-ghost use Rattle.rds_briefs.specs.Texts.{Holds, Extends, capped};
+ghost use Rattle.rds_briefs.specs.Texts.{HoldsBriefText, Extends, capped};
 
 use rds_bytes::{MAX_PACKED, counters_length, packed_length, put_byte, put_counters, put_packed};
 use rds_codec::LIMIT;
@@ -22,7 +22,7 @@ pub struct Text {
 impl Text {
     /// No bytes as yet, of a text that is kept.
     pub fn new(alloc: Global) -> Text
-        ensures { Holds result [] }
+        ensures { HoldsBriefText result [] }
     {
         Text {
             bytes: Vec::new(alloc),
@@ -33,7 +33,7 @@ impl Text {
 
     /// No bytes as yet, of a text that is only counted.
     pub fn counted(alloc: Global) -> Text
-        ensures { Holds result [] }
+        ensures { HoldsBriefText result [] }
     {
         Text {
             bytes: Vec::new(alloc),
@@ -80,7 +80,7 @@ impl Text {
 
     /// The text and the counters behind it. Above the limit both are refused (`TooLong`).
     pub fn with_counters(self, counts: &Counts) -> Result<Vec<u8>, Fault>
-        ensures { (t : List ℕ) → Holds self t → Encodes (t ++ counters_text counts.now) result }
+        ensures { (t : List ℕ) → HoldsBriefText self t → Encodes (t ++ counters_text counts.now) result }
     {
         let Text {
             bytes,

@@ -4,7 +4,7 @@ ghost use Rattle.rds_dots.specs.declared.dot.TheConstants.{MAX_SEQ};
 ghost use Rattle.rds_dots.specs.Dots.{IsRun};
 ghost use Rattle.rds_dots.specs.Runs.{runs_of};
 ghost use Rattle.rds_briefs.specs.Lives.{lives_in, byte_from, up_to_eight};
-ghost use Rattle.rds_briefs.specs.BriefTexts.{lengths_text, bits_text, lives_text, run_text, runs_text};
+ghost use Rattle.rds_briefs.specs.BriefTexts.{lengths_text, bits_text, lives_text, brief_run_text, runs_text};
 ghost use Rattle.rds_briefs.specs.Texts.{Extends};
 
 use crate::stretches::stretch;
@@ -107,7 +107,7 @@ fn put_lives<S: DotSet>(alloc: Global, text: &mut Text, live: &S, first: Dot, co
 /// A run of seen dots, and which of them are live.
 fn put_run<S: DotSet>(alloc: Global, text: &mut Text, live: &S, run: Run)
     requires { IsRun run }
-    ensures { Extends text.old text.new (run_text (S.contents live.now) run) }
+    ensures { Extends text.old text.new (brief_run_text (S.contents live.now) run) }
 {
     text.put_packed(run.lo);
     text.put_byte(run.replica);

@@ -7,7 +7,7 @@ use Rattle.rds_listing.specs.Dump.{dump_text}
 use Rattle.rds_questions.specs.Questions.{question_of, question_text}
 use Rattle.rds_state.specs.Fits.{ReplicaValue}
 use Rattle.rds_state.specs.Mark.{mark_of, mark_text}
-use Rattle.rds_store.specs.Looks.{IsValueText, told_at, view_text}
+use Rattle.rds_store.specs.Looks.{IsValueText, text_at_path, view_text}
 use Rattle.rds_c.specs.declared.looking.Look.{Look}
 use Rattle.rds_c.specs.declared.looking.Look.TheVariants.{View, Value, Conflicts, Dump}
 use Rattle.rds_c.specs.declared.looking.Whole.{Whole}
@@ -15,14 +15,14 @@ use Rattle.rds_c.specs.declared.looking.Whole.TheVariants.{Snapshot, Status, Mar
 
 -- at the path that a text is
 abbrev pub IsTextAt : Look → List ℕ → ReplicaValue → List ℕ → Type 0
-IsTextAt View path v text = told_at view_text v.state path ≡ Ok text
+IsTextAt View path v text = text_at_path view_text v.state path ≡ Ok text
 IsTextAt Value path v text = IsValueText v.state path text
-IsTextAt Conflicts path v text = told_at conflicts_text v.state path ≡ Ok text
-IsTextAt Dump path v text = told_at dump_text v.state path ≡ Ok text
+IsTextAt Conflicts path v text = text_at_path conflicts_text v.state path ≡ Ok text
+IsTextAt Dump path v text = text_at_path dump_text v.state path ≡ Ok text
 
 -- of all of it
-abbrev pub IsTextOf : Whole → ReplicaValue → List ℕ → Type 0
-IsTextOf Snapshot v text = text ≡ file_text v
-IsTextOf Status v text = IsOverview v text
-IsTextOf Mark v text = text ≡ mark_text (mark_of v.state)
-IsTextOf Question v text = text ≡ question_text (question_of v)
+abbrev pub IsWholeText : Whole → ReplicaValue → List ℕ → Type 0
+IsWholeText Snapshot v text = text ≡ file_text v
+IsWholeText Status v text = IsOverview v text
+IsWholeText Mark v text = text ≡ mark_text (mark_of v.state)
+IsWholeText Question v text = text ≡ question_text (question_of v)

@@ -13,7 +13,7 @@ use Rattle.rds_offline.specs.Letters.{TakesResponse}
 use Rattle.rds_state.specs.Fits.{ReplicaValue}
 use Rattle.rds_state.specs.declared.command.Command.{Command}
 use Rattle.rds_store.specs.Changes.{DraftValue}
-use Rattle.rds_store.specs.Documents.{first_of}
+use Rattle.rds_store.specs.Documents.{first_replica}
 use Rattle.rds_store.specs.Meetings.{MergesSnapshot, RespondsTo}
 use Rattle.rds_c.specs.Told.{EditsDocument, IsLeft, IsNarrowed, IsTold, layout_for_c}
 use Rattle.rds_c.specs.contracts.opened.Opened.{the_row}
@@ -25,9 +25,9 @@ abbrev pub draft_of : Option the_row.Denot → Option DraftValue
 draft_of None = None
 draft_of (Some d) = Some d.draft
 
-abbrev pub left_of : Option the_row.Denot → List ℕ
-left_of None = []
-left_of (Some d) = d.told.items
+abbrev pub left_text : Option the_row.Denot → List ℕ
+left_text None = []
+left_text (Some d) = d.told.items
 
 -- the replica of a slot, and what it was when it was kept
 abbrev pub draft_in : Slot → Option DraftValue
@@ -35,15 +35,15 @@ draft_in slot = draft_of slot.handle.document
 
 -- what is left to be told of it
 abbrev pub left_in : Slot → List ℕ
-left_in slot = left_of slot.handle.document
+left_in slot = left_text slot.handle.document
 
 -- the same replica, or none before and after
-abbrev pub IsKept : Slot → Slot → Type 0
-IsKept old new = draft_in new ≡ draft_in old
+abbrev pub SlotIsKept : Slot → Slot → Type 0
+SlotIsKept old new = draft_in new ≡ draft_in old
 
 -- where a call was refused, the replica is as it was
 abbrev pub IsKeptUnlessDone : ℕ → Slot → Slot → Type 0
-IsKeptUnlessDone status old new = (status ≡ 0) ⊎ IsKept old new
+IsKeptUnlessDone status old new = (status ≡ 0) ⊎ SlotIsKept old new
 
 abbrev pub holds_of : (DraftValue → Type 0) → Option DraftValue → Type 0
 holds_of P (Some v) = P v
@@ -57,8 +57,8 @@ abbrev pub changes_of : (ReplicaValue → ReplicaValue → Type 0) → Option Dr
 changes_of P = becomes_of (λ v w. P v.document w.document × (w.kept ≡ v.kept))
 
 -- a slot with a replica of which this holds
-abbrev pub Holds : (ReplicaValue → Type 0) → Slot → Type 0
-Holds P slot = holds_of (λ v. P v.document) (draft_in slot)
+abbrev pub SlotHolds : (ReplicaValue → Type 0) → Slot → Type 0
+SlotHolds P slot = holds_of (λ v. P v.document) (draft_in slot)
 
 -- a slot with a replica before and after, of which this holds; what it was when it was kept is the same
 abbrev pub Changes : (ReplicaValue → ReplicaValue → Type 0) → Slot → Slot → Type 0
@@ -67,13 +67,13 @@ Changes P old new = changes_of P (draft_in old) (draft_in new)
 -- ---- opening
 
 -- the replica that was made, where one was
-abbrev pub IsMade : Result DraftValue Fault → Slot → Type 0
-IsMade (Ok v) slot = holds_of (λ w. w ≡ v) (draft_in slot)
-IsMade (Err fault) slot = ⊥
+abbrev pub SlotIsMade : Result DraftValue Fault → Slot → Type 0
+SlotIsMade (Ok v) slot = holds_of (λ w. w ≡ v) (draft_in slot)
+SlotIsMade (Err fault) slot = ⊥
 
 -- an empty replica of the roster that a line has
-abbrev pub IsFirst : List ℕ → ℕ → ReplicaValue → Type 0
-IsFirst line own v = (roster : RosterValue) × (line_of line ≡ Ok (Roster roster)) × (first_of (Ok roster) own ≡ Ok v)
+abbrev pub IsNewReplica : List ℕ → ℕ → ReplicaValue → Type 0
+IsNewReplica line own v = (roster : RosterValue) × (line_of line ≡ Ok (Roster roster)) × (first_replica (Ok roster) own ≡ Ok v)
 
 -- ---- files
 
@@ -106,15 +106,15 @@ abbrev pub Says : (DraftValue → List ℕ → Type 0) → (List ℕ → Type 0)
 Says Text P v = (text : List ℕ) × Text v text × P text
 
 -- a text is told (status 0), or left to be told (66), and the replica is as it was
-pub record TellsOf (Text : DraftValue → List ℕ → Type 0) (status : ℕ) (old new : Slot) (room : List ℕ) (n : ℕ)
+pub record TellsTextOf (Text : DraftValue → List ℕ → Type 0) (status : ℕ) (old new : Slot) (room : List ℕ) (n : ℕ)
     : Type 0 where
   pub told : status ≡ 0 → holds_of (Says Text (λ text. IsTold text room n)) (draft_in old)
   pub left : status ≡ 66 → holds_of (Says Text (λ text. IsLeft text (left_in new) n)) (draft_in old)
-  pub kept : IsKept old new
+  pub kept : SlotIsKept old new
 
 -- a text of the replica
-abbrev pub Tells : (ReplicaValue → List ℕ → Type 0) → ℕ → Slot → Slot → List ℕ → ℕ → Type 0
-Tells Text = TellsOf (λ v. Text v.document)
+abbrev pub TellsText : (ReplicaValue → List ℕ → Type 0) → ℕ → Slot → Slot → List ℕ → ℕ → Type 0
+TellsText Text = TellsTextOf (λ v. Text v.document)
 
 -- the bytes are what a replica responds to a question
 pub record Responds (question : List ℕ) (v : ReplicaValue) (text : List ℕ) : Type 0 where
@@ -130,8 +130,8 @@ pub record Edits (asked : Result Command Fault) (status : ℕ) (old new : Slot) 
   pub kept : IsKeptUnlessDone status old new
 
 -- what an answer brought was taken
-abbrev pub Takes : List ℕ → List ℕ → Slot → Slot → ℕ → Type 0
-Takes question answer old new told =
+abbrev pub TakesInSlot : List ℕ → List ℕ → Slot → Slot → ℕ → Type 0
+TakesInSlot question answer old new told =
     Changes (λ v w. (n : ℕ) × TakesResponse question answer v w n × IsNarrowed n told) old new
 
 -- what a snapshot has was taken

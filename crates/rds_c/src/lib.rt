@@ -5,10 +5,10 @@
 
 ghost use Rattle.std.specs.Prelude.{◌≡◌, ◌⊎◌, ◌==◌, None, Ok, IfOk, not};
 ghost use Rattle.rds_c.specs.Asked.{cleared_of, lowered_of, raised_of, valued_of};
-ghost use Rattle.rds_c.specs.Looks.{IsTextAt, IsTextOf};
-ghost use Rattle.rds_c.specs.Promises.{Changes, Edits, Holds, IsFirst, IsKeptUnlessDone, IsMade};
-ghost use Rattle.rds_c.specs.Promises.{IsOpenedFrom, IsRecord, OpensFile, SetsKept, TellsOf};
-ghost use Rattle.rds_c.specs.Promises.{Merges, Responds, Takes, Tells, left_in};
+ghost use Rattle.rds_c.specs.Looks.{IsTextAt, IsWholeText};
+ghost use Rattle.rds_c.specs.Promises.{Changes, Edits, SlotHolds, IsNewReplica, IsKeptUnlessDone, SlotIsMade};
+ghost use Rattle.rds_c.specs.Promises.{IsOpenedFrom, IsRecord, OpensFile, SetsKept, TellsTextOf};
+ghost use Rattle.rds_c.specs.Promises.{Merges, Responds, TakesInSlot, TellsText, left_in};
 ghost use Rattle.rds_c.specs.Told.{IsLeft, IsTold, MakesEdits};
 ghost use Rattle.rds_c.specs.declared.asking.Verb.TheVariants.{Set, Add, Del};
 ghost use Rattle.rds_c.specs.declared.looking.Look.TheVariants.{View, Value, Conflicts, Dump};
@@ -40,7 +40,7 @@ use std::alloc::Global;
 
 /// Opens a slot that is closed.
 fn fill(alloc: Global, slot: &mut Slot, made: Result<Draft, Fault>) -> u32
-    ensures done { result ≡ 0 → IsMade made slot.new }
+    ensures done { result ≡ 0 → SlotIsMade made slot.new }
     ensures kept { IsKeptUnlessDone result slot.old slot.new }
 {
     let draft = match made {
@@ -66,7 +66,7 @@ fn fill(alloc: Global, slot: &mut Slot, made: Result<Draft, Fault>) -> u32
 
 /// The empty replica of a line's roster.
 fn first(alloc: Global, line: &str, own: u8) -> Result<Draft, Fault>
-    ensures first { IfOk result (λ draft. IsFirst line.now own draft.document) }
+    ensures first { IfOk result (λ draft. IsNewReplica line.now own draft.document) }
 {
     let mut reader = LineReader::new(alloc);
     match reader.command(alloc, line)? {
@@ -78,7 +78,7 @@ fn first(alloc: Global, line: &str, own: u8) -> Result<Draft, Fault>
 /// Opens an empty replica: number `own` of the roster that the line of JSON has.
 #[unsafe(no_mangle)]
 pub extern "C" fn rds_new(alloc: Global, slot: &mut Slot, line: &[u8], own: u8) -> u32
-    ensures opened { result ≡ 0 → Holds (IsFirst line.now own) slot.new }
+    ensures opened { result ≡ 0 → SlotHolds (IsNewReplica line.now own) slot.new }
     ensures kept { IsKeptUnlessDone result slot.old slot.new }
 {
     let Ok(line) = str::from_utf8(line) else {
@@ -90,7 +90,7 @@ pub extern "C" fn rds_new(alloc: Global, slot: &mut Slot, line: &[u8], own: u8) 
 /// Opens the replica of a snapshot, or of a file's bytes.
 #[unsafe(no_mangle)]
 pub extern "C" fn rds_open(alloc: Global, slot: &mut Slot, snapshot: &[u8]) -> u32
-    ensures opened { result ≡ 0 → Holds (IsHeldBy snapshot.now) slot.new }
+    ensures opened { result ≡ 0 → SlotHolds (IsHeldBy snapshot.now) slot.new }
     ensures kept { IsKeptUnlessDone result slot.old slot.new }
 {
     fill(alloc, slot, opened_snapshot(alloc, snapshot))
@@ -379,7 +379,7 @@ pub extern "C" fn rds_view(
     room: &mut [u8],
     length: &mut usize,
 ) -> u32
-    ensures { Tells (IsTextAt View path.now) result slot.old slot.new room.new length.new }
+    ensures { TellsText (IsTextAt View path.now) result slot.old slot.new room.new length.new }
 {
     look_at(alloc, slot, Look::View, path, room, length)
 }
@@ -393,7 +393,7 @@ pub extern "C" fn rds_get(
     room: &mut [u8],
     length: &mut usize,
 ) -> u32
-    ensures { Tells (IsTextAt Value path.now) result slot.old slot.new room.new length.new }
+    ensures { TellsText (IsTextAt Value path.now) result slot.old slot.new room.new length.new }
 {
     look_at(alloc, slot, Look::Value, path, room, length)
 }
@@ -407,7 +407,7 @@ pub extern "C" fn rds_conflicts(
     room: &mut [u8],
     length: &mut usize,
 ) -> u32
-    ensures { Tells (IsTextAt Conflicts path.now) result slot.old slot.new room.new length.new }
+    ensures { TellsText (IsTextAt Conflicts path.now) result slot.old slot.new room.new length.new }
 {
     look_at(alloc, slot, Look::Conflicts, path, room, length)
 }
@@ -421,7 +421,7 @@ pub extern "C" fn rds_dump(
     room: &mut [u8],
     length: &mut usize,
 ) -> u32
-    ensures { Tells (IsTextAt Dump path.now) result slot.old slot.new room.new length.new }
+    ensures { TellsText (IsTextAt Dump path.now) result slot.old slot.new room.new length.new }
 {
     look_at(alloc, slot, Look::Dump, path, room, length)
 }
@@ -434,7 +434,7 @@ pub extern "C" fn rds_snapshot(
     room: &mut [u8],
     length: &mut usize,
 ) -> u32
-    ensures { Tells (IsTextOf Snapshot) result slot.old slot.new room.new length.new }
+    ensures { TellsText (IsWholeText Snapshot) result slot.old slot.new room.new length.new }
 {
     look_whole(alloc, slot, Whole::Snapshot, room, length)
 }
@@ -447,7 +447,7 @@ pub extern "C" fn rds_status_json(
     room: &mut [u8],
     length: &mut usize,
 ) -> u32
-    ensures { Tells (IsTextOf Status) result slot.old slot.new room.new length.new }
+    ensures { TellsText (IsWholeText Status) result slot.old slot.new room.new length.new }
 {
     look_whole(alloc, slot, Whole::Status, room, length)
 }
@@ -460,7 +460,7 @@ pub extern "C" fn rds_mark(
     room: &mut [u8],
     length: &mut usize,
 ) -> u32
-    ensures { Tells (IsTextOf Mark) result slot.old slot.new room.new length.new }
+    ensures { TellsText (IsWholeText Mark) result slot.old slot.new room.new length.new }
 {
     look_whole(alloc, slot, Whole::Mark, room, length)
 }
@@ -473,7 +473,7 @@ pub extern "C" fn rds_ask(
     room: &mut [u8],
     length: &mut usize,
 ) -> u32
-    ensures { Tells (IsTextOf Question) result slot.old slot.new room.new length.new }
+    ensures { TellsText (IsWholeText Question) result slot.old slot.new room.new length.new }
 {
     look_whole(alloc, slot, Whole::Question, room, length)
 }
@@ -487,7 +487,7 @@ pub extern "C" fn rds_answer(
     room: &mut [u8],
     length: &mut usize,
 ) -> u32
-    ensures { Tells (Responds question.now) result slot.old slot.new room.new length.new }
+    ensures { TellsText (Responds question.now) result slot.old slot.new room.new length.new }
 {
     let Some(mut held) = take_out(alloc, slot) else {
         return CLOSED;
@@ -527,7 +527,7 @@ pub extern "C" fn rds_take(
     answer: &[u8],
     taken: &mut u64,
 ) -> u32
-    ensures taken { result ≡ 0 → Takes question.now answer.now slot.old slot.new taken.new }
+    ensures taken { result ≡ 0 → TakesInSlot question.now answer.now slot.old slot.new taken.new }
     ensures kept { IsKeptUnlessDone result slot.old slot.new }
 {
     let Some(mut held) = take_out(alloc, slot) else {
@@ -606,7 +606,7 @@ pub extern "C" fn file_change(
     room: &mut [u8],
     length: &mut usize,
 ) -> u32
-    ensures { TellsOf IsRecord result slot.old slot.new room.new length.new }
+    ensures { TellsTextOf IsRecord result slot.old slot.new room.new length.new }
 {
     let Some(mut held) = take_out(alloc, slot) else {
         return CLOSED;

@@ -1,7 +1,7 @@
 //! What is told of the document in a slot.
 ghost use Rattle.std.specs.Prelude.{◌≡◌, IfOk, string_bytes};
-ghost use Rattle.rds_c.specs.Looks.{IsTextAt, IsTextOf};
-ghost use Rattle.rds_c.specs.Promises.{IsRecord, Responds, Tells};
+ghost use Rattle.rds_c.specs.Looks.{IsTextAt, IsWholeText};
+ghost use Rattle.rds_c.specs.Promises.{IsRecord, Responds, TellsText};
 ghost use Rattle.rds_c.specs.Told.{IsBytesOf};
 ghost use Rattle.rds_state.specs.Mark.{mark_text};
 
@@ -67,7 +67,7 @@ impl Look {
 
 impl Whole {
     fn of(self, alloc: Global, document: &Document) -> Result<Vec<u8>, Fault>
-        ensures { IfOk result (λ bytes. IsTextOf self document.now bytes.items) }
+        ensures { IfOk result (λ bytes. IsWholeText self document.now bytes.items) }
     {
         match self {
             Whole::Snapshot => document.snapshot(),
@@ -104,7 +104,7 @@ pub fn look_at(
     room: &mut [u8],
     length: &mut usize,
 ) -> u32
-    ensures { Tells (IsTextAt look path.now) result slot.old slot.new room.new length.new }
+    ensures { TellsText (IsTextAt look path.now) result slot.old slot.new room.new length.new }
 {
     let Ok(path) = str::from_utf8(path) else {
         return NOT_UTF8;
@@ -126,7 +126,7 @@ pub fn look_whole(
     room: &mut [u8],
     length: &mut usize,
 ) -> u32
-    ensures { Tells (IsTextOf whole) result slot.old slot.new room.new length.new }
+    ensures { TellsText (IsWholeText whole) result slot.old slot.new room.new length.new }
 {
     let Some(mut held) = take_out(alloc, slot) else {
         return CLOSED;

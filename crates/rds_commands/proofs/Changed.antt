@@ -24,10 +24,10 @@ use Rattle.rds_delta.proofs.Exchanges.{least_fits}
 use Rattle.rds_delta.proofs.LeastLaws.{grown_delta}
 use Rattle.rds_keep.specs.Changes.{ChangeValue, IsChanged}
 use Rattle.rds_files.specs.Files.{KeptFile}
-use Rattle.rds_lines.specs.Editing.{EditsLines, EditsLinesBehind, EditsNext, IsEdited, MeetsCommand, MeetsEdit, edit_of_bytes}
+use Rattle.rds_lines.specs.Editing.{EditsLines, EditsLinesBehind, EditsNext, AnswersEdited, MeetsCommand, MeetsEdit, edit_of_bytes}
 use Rattle.rds_lines.specs.Lines.{is_empty_line}
 use Rattle.rds_output.specs.declared.reply.Reply.{Reply}
-use Rattle.rds_commands.specs.Edits.{IsGrown, delta_alone}
+use Rattle.rds_commands.specs.Edits.{IsGrownByNames, delta_alone}
 use Rattle.rds_commands.proofs.Growing.{grown_begins}
 
 begins_self : (r s : RosterValue) → s ≡ r → Begins r s
@@ -138,7 +138,7 @@ none_counted nothing no_lives no_counts =
     let counts : map.len nothing.counts ≡ 0 = ap (λ v. map.len v) no_counts ∙ map.len-empty _ _ in
     omega (arith, lives, counts)
 
-pub changed_by_names : (names : List (List ℕ)) (old new : ReplicaValue) (roster : RosterValue) (nothing : StateValue) → IsGrown names old new → roster ≡ new.roster → nothing.lives ≡ map.empty → nothing.counts ≡ map.empty
+pub changed_by_names : (names : List (List ℕ)) (old new : ReplicaValue) (roster : RosterValue) (nothing : StateValue) → IsGrownByNames names old new → roster ≡ new.roster → nothing.lives ≡ map.empty → nothing.counts ≡ map.empty
     → IsChanged old (record { roster = Some roster; delta = nothing }) new
 changed_by_names names old new roster nothing grown is no_lives no_counts = record {
   roster = sym is;
@@ -157,7 +157,7 @@ changed_in file emptied old new change same is changed =
 -- ---- one edit, as it is answered
 
 module _ (old new : ReplicaValue) (command : Command) (told : Edited) (delta : StateValue) (edits : EditsWithDelta old command (Ok (told, delta)) new) where
-  pub edited_told : (roster : RosterValue) (answer : Reply) → roster ≡ new.roster → answer ≡ edit_reply roster told.dot told.killed → IsEdited command old new answer
+  pub edited_told : (roster : RosterValue) (answer : Reply) → roster ≡ new.roster → answer ≡ edit_reply roster told.dot told.killed → AnswersEdited command old new answer
   edited_told roster answer same is = record {
     roster = edits.roster;
     own = edits.own;

@@ -13,7 +13,7 @@ use Rattle.rds_output.specs.Output.{Writes}
 use Rattle.rds_output.specs.declared.reply.Reply.{Reply}
 use Rattle.rds_output.specs.declared.reply.Reply.TheVariants.{Taken}
 use Rattle.rds_files.specs.Files.{ReplacedValue}
-use Rattle.rds_lines.specs.Streams.{Stream, Tells}
+use Rattle.rds_lines.specs.Streams.{Stream, Emits}
 use Rattle.rds_offline.specs.declared.copies.TakenFile.{TakenFile}
 use Rattle.rds_commands.specs.OfFile.{WritesOfFile, answer_of, taken_of}
 use Rattle.rds_commands.specs.declared.file_commands.FileAnswer.{FileAnswer}
@@ -35,12 +35,12 @@ mistaken kinds e before after status has told = elim has [
 
 -- the answer that came with a file
 pub told_of_file : {F : Type 0} (comes : F → Reply → Type 0) (refuses : Fault → Type 0) (done : Result (FileAnswer F) Fault) (writing : Stream) (status : ℕ) → IfOk done (λ d. comes d.file d.answer) → IfErr done refuses
-    → Tells (WritesReply (answer_of done)) writing status → Tells (WritesOfFile comes refuses) writing status
+    → Emits (WritesReply (answer_of done)) writing status → Emits (WritesOfFile comes refuses) writing status
 told_of_file comes refuses (Ok done) writing status came refused told = λ wrote. inl (done.file, done.answer, came, told wrote)
 told_of_file comes refuses (Err fault) writing status came refused told = λ wrote. inr (fault, refused, told wrote)
 
 -- how many components the file took
 pub taken_of_file : (takes : ReplacedValue → ℕ → Type 0) (refuses : Fault → Type 0) (done : Result TakenFile Fault) (writing : Stream) (status : ℕ) → IfOk done (λ d. takes d.file d.components) → IfErr done refuses
-    → Tells (WritesReply (taken_of done)) writing status → Tells (WritesOfFile (λ file answer. (components : ℕ) × takes file components × (answer ≡ Taken components)) refuses) writing status
+    → Emits (WritesReply (taken_of done)) writing status → Emits (WritesOfFile (λ file answer. (components : ℕ) × takes file components × (answer ≡ Taken components)) refuses) writing status
 taken_of_file takes refuses (Ok done) writing status took refused told = λ wrote. inl (done.file, Taken done.components, (done.components, took, refl), told wrote)
 taken_of_file takes refuses (Err fault) writing status took refused told = λ wrote. inr (fault, refused, told wrote)

@@ -16,7 +16,7 @@ use Rattle.rds_world.proofs.Meeting.{longer_length}
 use Rattle.rds_world.proofs.Open.{TakesAnswer, asked_within_kept, asks_now, leads_to, lent_now, opened, saved_open, taken_open, then_open}
 use Rattle.rds_world.proofs.Staying.{answers_stay}
 use Rattle.rds_files.specs.Files.{ReplacedValue}
-use Rattle.rds_meetings.specs.Settling.{Settles, IsJoined}
+use Rattle.rds_meetings.specs.Settling.{Settles, JoinsWith}
 use Rattle.rds_meetings.specs.declared.settling.Settled.TheVariants.{Taken}
 use Rattle.rds_commands.specs.Sessions.{LeavesFile, ReadingsAreAsks, SessionsAreAnswered}
 use Rattle.rds_commands.specs.Sessions.{SettlingsAreTakes, settling_events}
@@ -55,7 +55,7 @@ among_length own other = elim (cases_lt (length own.names) (length other.names))
 
 module _ (w : World) (number : ℕ) (asked peer : ReplicaValue) (path : List ℕ) (delivery : Delivery) (components : ℕ) (file : ReplacedValue) (rosters : HasRosters w)
     (answered : IsAnsweredIn w number asked peer) (its : IsItsLeast peer asked (Some delivery)) (before : IsKeptIn w file.before) (settles : Settles path asked (Some delivery) (Taken components) (Some file)) where
-  abbrev joined : IsJoined file.before (roster_among asked.roster delivery.1) delivery.0 file.kept
+  abbrev joined : JoinsWith file.before (roster_among asked.roster delivery.1) delivery.0 file.kept
   joined = settles.0.joined
 
   own : file.before.own ≡ asked.own

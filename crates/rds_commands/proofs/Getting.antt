@@ -8,7 +8,7 @@ use Rattle.rds_state.specs.Fits.{ReplicaValue}
 use Rattle.rds_keep.specs.declared.layout.Layout.{Layout}
 use Rattle.rds_lines.specs.Overview.{TellsOverview}
 use Rattle.rds_output.specs.declared.reply.Reply.{Reply}
-use Rattle.rds_files.specs.Files.{FileValue, IsReadAt, IsUnread}
+use Rattle.rds_files.specs.Files.{FileValue, IsReadAt, IsUnreadFile}
 use Rattle.rds_words.proofs.OneMeaning.{ok_isnt_err}
 use Rattle.rds_commands.specs.Looks.{DescribesFile, RefusesGet}
 
@@ -29,7 +29,7 @@ module _ (text : List ℕ) (keys : List (List ℕ)) (is : path_of text ≡ Ok ke
       unfound fault memory = rw (memory, is) refl
 
   -- there is no replica in the file
-  pub no_file : (above : List (List ℕ)) (key : List ℕ) (fault : Fault) → keys ≡ above ++ key ∷ [] → IsUnread fault → RefusesGet text fault
+  pub no_file : (above : List (List ℕ)) (key : List ℕ) (fault : Fault) → keys ≡ above ++ key ∷ [] → IsUnreadFile fault → RefusesGet text fault
   no_file above key fault at unread = inr (inr ((above, key, is ∙ ap Ok at), unread))
 
   -- the empty text is the root's

@@ -15,7 +15,7 @@ use Rattle.rds_files.specs.Files.{IsHeldAt, IsUnkept, KeptFile, RefusesLock, Rep
 use Rattle.rds_words.proofs.OneMeaning.{ok_isnt_err}
 use Rattle.rds_words.specs.Meaning.{names_for, names_in}
 use Rattle.rds_words.specs.declared.tasks.GrowWords.{GrowWords}
-use Rattle.rds_commands.specs.Edits.{GrowsFile, IsGrown, RefusesGrow, RefusesGrowIn}
+use Rattle.rds_commands.specs.Edits.{GrowsFile, IsGrownByNames, RefusesGrow, RefusesGrowIn}
 use Rattle.rds_commands.specs.Told.{WritesGrowSite}
 
 ok_is : (x y : RosterValue) → (let a : Result RosterValue Fault = Ok x in a ≡ Ok y) → x ≡ y
@@ -43,7 +43,7 @@ grows_on r s WrongRoster begins gives = absurd (gives.1 begins)
 grows_on r s fault begins gives = absurd gives
 
 module _ (names : List (List ℕ)) (old new : ReplicaValue) (s : RosterValue) (grown : grown_of old.roster names ≡ Ok s) where
-  pub is_grown : (result : Result (Unit {0}) Fault) → OnOk result (new.roster ≡ s) → new.own ≡ old.own → new.state ≡ old.state → OnOk result (IsGrown names old new)
+  pub is_grown : (result : Result (Unit {0}) Fault) → OnOk result (new.roster ≡ s) → new.own ≡ old.own → new.state ≡ old.state → OnOk result (IsGrownByNames names old new)
   is_grown (Ok u) roster own state = record { roster = grown ∙ ap Ok (sym roster); own = own; state = state }
   is_grown (Err fault) roster own state = tt
 
@@ -58,11 +58,11 @@ ok_of (Ok s) ok = (s, refl)
 ok_of (Err fault) ok = absurd cc
 
 -- what a copy became is what the replica became
-pub kept_growth : (names : List (List ℕ)) (before old after kept : ReplicaValue) → old ≡ before → IsGrown names old after → kept ≡ after → IsGrown names before kept
+pub kept_growth : (names : List (List ℕ)) (before old after kept : ReplicaValue) → old ≡ before → IsGrownByNames names old after → kept ≡ after → IsGrownByNames names before kept
 kept_growth names before old after kept same grown is = rw (is, ← same) grown
 
 -- the copy can't be kept
-pub unkept_growth : (names : List (List ℕ)) (before old after : ReplicaValue) (fault : Fault) → old ≡ before → IsGrown names old after → IsUnkept after fault → RefusesGrowIn names before fault
+pub unkept_growth : (names : List (List ℕ)) (before old after : ReplicaValue) (fault : Fault) → old ≡ before → IsGrownByNames names old after → IsUnkept after fault → RefusesGrowIn names before fault
 unkept_growth names before old after fault same grown unkept = inr (after, rw (← same) grown, unkept)
 
 refused_before : (names : List (List ℕ)) (before : ReplicaValue) (fault : Fault) → Refuses fault (grown_of before.roster names) → RefusesGrowIn names before fault
@@ -83,7 +83,7 @@ names_are words texts names seen same are is = rw (← same, is) are
 
 -- the file that was read under its lock is the one that was replaced
 pub grows_file : (words : GrowWords) (names : List (List ℕ)) (file : KeptFile) (done : ReplacedValue) (answer : Reply) → IsHeldAt words.file.now file → names_for words ≡ Ok names → done.path ≡ file.path → done.before ≡ file.kept
-    → IsGrown names file.kept done.kept → answer ≡ Done → GrowsFile words done answer
+    → IsGrownByNames names file.kept done.kept → answer ≡ Done → GrowsFile words done answer
 grows_file words names file done answer held asked at is grown told = record {
   read = record { at = at ∙ held.at; value = rw is held.value; place = held.place };
   names = names;

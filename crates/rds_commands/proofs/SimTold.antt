@@ -7,7 +7,7 @@ use Rattle.rds_names.specs.declared.fault.Fault.TheVariants.{Memory}
 use Rattle.rds_keep.specs.Parts.{AppendsFront}
 use Rattle.rds_lines.specs.Answering.{AnswersLines, WritesAnswers}
 use Rattle.rds_lines.specs.Sim.{IsSimOutput, MayBeSimulated}
-use Rattle.rds_lines.specs.Streams.{NoneFailed, Stream, Tells}
+use Rattle.rds_lines.specs.Streams.{NoneFailed, Stream, Emits}
 use Rattle.rds_lines.proofs.Spent.{unread}
 use Rattle.rds_output.specs.Output.{Writes, fault_line}
 use Rattle.rds_words.specs.Task.{words_of}
@@ -15,7 +15,7 @@ use Rattle.rds_words.specs.declared.tasks.Task.{Task}
 use Rattle.rds_commands.specs.Told.{MayWriteNamed, RunsSim, WritesSim, WritesTask}
 
 -- there was no memory to read the words, and nothing of the reader was used
-pub sim_unwritten : (input : Option (List ℕ)) (reading writing : Stream) (status : ℕ) → reading.before ≡ input → reading.after ≡ input → (reading.CountRose → ⊥) → Tells (Writes (Err Memory)) writing status
+pub sim_unwritten : (input : Option (List ℕ)) (reading writing : Stream) (status : ℕ) → reading.before ≡ input → reading.after ≡ input → (reading.CountRose → ⊥) → Emits (Writes (Err Memory)) writing status
     → AppendsFront writing.before writing.after (fault_line Memory) → RunsSim reading writing status
 sim_unwritten input reading writing status first last steady told part = record {
   sim = not_read reading.before;
@@ -24,7 +24,7 @@ sim_unwritten input reading writing status first last steady told part = record 
   bound = rw (first, last) (unread input _);
 }
   where
-    not_read : (o : Option (List ℕ)) → IfSome o (λ input. NoneFailed reading → Tells (WritesSim input) writing status)
+    not_read : (o : Option (List ℕ)) → IfSome o (λ input. NoneFailed reading → Emits (WritesSim input) writing status)
     not_read None = tt
     not_read (Some input) = λ read wrote. inl (told wrote)
 
@@ -37,7 +37,7 @@ sim_runs reading writing status h = record {
   bound = h.bound;
 }
   where
-    is_sim : (o : Option (List ℕ)) → IfSome o (λ input. NoneFailed reading → Tells (WritesAnswers (IsSimOutput input)) writing status) → IfSome o (λ input. NoneFailed reading → Tells (WritesSim input) writing status)
+    is_sim : (o : Option (List ℕ)) → IfSome o (λ input. NoneFailed reading → Emits (WritesAnswers (IsSimOutput input)) writing status) → IfSome o (λ input. NoneFailed reading → Emits (WritesSim input) writing status)
     is_sim None h = tt
     is_sim (Some input) h = λ read wrote. inr (h read wrote)
 

@@ -8,14 +8,14 @@ use Rattle.rds_codec.specs.declared.limits.TheConstants.{LIMIT}
 use Rattle.rds_state.specs.Fits.{ReplicaValue}
 use Rattle.rds_state.specs.declared.command.Command.{Command}
 use Rattle.rds_listing.specs.Differences.{differences_text}
-use Rattle.rds_listing.specs.Presence.{Stands}
+use Rattle.rds_listing.specs.Presence.{StandsThere}
 use Rattle.rds_files.specs.Files.{FileValue, IsReadAt}
 use Rattle.rds_listing.specs.declared.bare.Raw.{Raw}
 use Rattle.rds_listing.specs.declared.bare.Wanted.{Wanted}
 use Rattle.rds_state.specs.Value.{StateValue}
 use Rattle.rds_commands.specs.Listing.{ComparesFiles, GetsRaw, ListsFile, WritesLines, WritesList, WritesRaw, WritesValues}
 use Rattle.rds_commands.specs.Offline.{AreReadBy, ChecksRead, IsUnchecked, WritesAnswer, WritesNothing, WritesTake, WritesTakeOf, WritesTold}
-use Rattle.rds_commands.specs.Reading.{IsReadBy, is_piped, text_read}
+use Rattle.rds_commands.specs.Reading.{IsReadOfInput, is_piped, text_read}
 use Rattle.rds_offline.specs.Letters.{ChecksTexts, RefusesCheck}
 
 -- the values that stood there
@@ -54,13 +54,13 @@ compares_files path other first second lines a b root p q first_read second_read
     same_lines a x b y r s e f h = rw (e, f, h) refl
 
 -- what stands in what a file held
-pub stands_in : (held : ReplicaValue) (state : StateValue) (kept : ReplicaValue) (command : Command) (same : Bool) → (IsTrue same ↔ Stands state command) → same ≡ true → state ≡ kept.state → kept ≡ held → Stands held.state command
+pub stands_in : (held : ReplicaValue) (state : StateValue) (kept : ReplicaValue) (command : Command) (same : Bool) → (IsTrue same ↔ StandsThere state command) → same ≡ true → state ≡ kept.state → kept ≡ held → StandsThere held.state command
 stands_in held state kept command same exact is state_is kept_is =
-    subst (λ (s : StateValue). Stands s command) (state_is ∙ ap (λ (r : ReplicaValue). r.state) kept_is) (exact.0 is)
+    subst (λ (s : StateValue). StandsThere s command) (state_is ∙ ap (λ (r : ReplicaValue). r.state) kept_is) (exact.0 is)
 
 -- what a second read finds in the input, of which the first took nothing
-pub read_later : (held later : Option (List ℕ)) (question answer text : List ℕ) (piped : Bool) → (piped && is_piped answer) ≡ false → (piped ≡ false → later ≡ held) → IsReadBy later answer text
-    → IsReadBy held answer text
+pub read_later : (held later : Option (List ℕ)) (question answer text : List ℕ) (piped : Bool) → (piped && is_piped answer) ≡ false → (piped ≡ false → later ≡ held) → IsReadOfInput later answer text
+    → IsReadOfInput held answer text
 read_later held later question answer text true one same read = λ is. absurd (not_both (is_piped answer) one is)
   where
     not_both : (b : Bool) → b ≡ false → b ≡ true → ⊥

@@ -30,8 +30,8 @@ RefusesLines path lines fault = RefusesLock path fault ⊎ ((before : ReplicaVal
 
 -- the answers to lines were written, of a file that keeps what they made of it, and nothing else; or why the file
 -- isn't edited
-abbrev pub WritesLines : List ℕ → List (List ℕ) → Option (List ℕ) → Option (List ℕ) → ℕ → Type 0
-WritesLines path lines before after status =
+abbrev pub WritesLineAnswers : List ℕ → List (List ℕ) → Option (List ℕ) → Option (List ℕ) → ℕ → Type 0
+WritesLineAnswers path lines before after status =
     ((file : ReplacedValue) × (answers : List Reply) × EditsFileBy path lines file answers
     × WritesAll answers before after status)
     ⊎ ((fault : Fault) × RefusesLines path lines fault × Writes (Err fault) before after status)
@@ -39,7 +39,7 @@ WritesLines path lines before after status =
 -- the same of the lines of an input, unless it has too many bytes, or there is no memory for it
 abbrev pub WritesEdits : List ℕ → List ℕ → Option (List ℕ) → Option (List ℕ) → ℕ → Type 0
 WritesEdits path input before after status =
-    ((length input ≤ MOST) × WritesLines path (lines_in input) before after status)
+    ((length input ≤ MOST) × WritesLineAnswers path (lines_in input) before after status)
     ⊎ (((MOST < length input) × Writes (Err TooLong) before after status) ⊎ Writes (Err Memory) before after status)
 
 -- the same of the input of a run; where it can't be read, that is told

@@ -50,15 +50,15 @@ pub record WritesOfSite (form : Form) (before after : Option (List ℕ)) (status
   pub suits : SuitsForm form text status
 
 -- why there is no answer is written; it isn't in place of a list, of bare values and of a letter
-abbrev pub tells_fault : Form → Bool
-tells_fault Replies = true
-tells_fault Lines = true
-tells_fault form = false
+abbrev pub writes_fault : Form → Bool
+writes_fault Replies = true
+writes_fault Lines = true
+writes_fault form = false
 
 -- why there is no answer was written, or nothing was
 abbrev pub LacksAnswer : Form → Fault → Option (List ℕ) → Option (List ℕ) → ℕ → Type 0
 LacksAnswer form fault before after status =
-    MatchBool (tells_fault form) (Writes (Err fault) before after status) (WritesNothing fault before after status)
+    MatchBool (writes_fault form) (Writes (Err fault) before after status) (WritesNothing fault before after status)
 
 -- what the site answered, or that there is no answer
 abbrev pub WritesCall : Form → Option (List ℕ) → Option (List ℕ) → ℕ → Type 0

@@ -1,5 +1,5 @@
 -- What commands on the replica in a file come to, and why they are refused.
-pub use Rattle.rds_lines.specs.Editing.{IsEdited, edit_refusal}
+pub use Rattle.rds_lines.specs.Editing.{AnswersEdited, edit_refusal}
 use Rattle.std.specs.Prelude.{◌≡◌, ◌⊎◌, ℕ, false, List, Option, Some, None, Ok, Err, IsOk}
 use Rattle.std.specs.FinMap as map
 use Rattle.rds_names.specs.declared.fault.Fault.{Fault}
@@ -12,7 +12,7 @@ use Rattle.rds_keep.specs.Changes.{ChangeValue}
 use Rattle.rds_state.specs.Fits.{ReplicaValue}
 use Rattle.rds_state.specs.Value.{StateValue}
 use Rattle.rds_state.specs.declared.command.Command.{Command}
-use Rattle.rds_listing.specs.Presence.{Stands}
+use Rattle.rds_listing.specs.Presence.{StandsThere}
 use Rattle.rds_lines.specs.Views.{ShowsView}
 use Rattle.rds_lines.specs.declared.views.Layout.{Layout}
 use Rattle.rds_output.specs.declared.reply.Reply.{Reply}
@@ -23,7 +23,7 @@ use Rattle.rds_files.specs.Files.{
   IsReadAt,
   IsReplacedAt,
   IsUnkept,
-  IsUnread,
+  IsUnreadFile,
   KeptFile,
   RefusesFile,
   RefusesLock,
@@ -60,7 +60,7 @@ RefusesInit words fault =
 -- ---- grow
 
 -- the same replica with these names behind those of its roster
-pub record IsGrown (names : List (List ℕ)) (before after : ReplicaValue) : Type 0 where
+pub record IsGrownByNames (names : List (List ℕ)) (before after : ReplicaValue) : Type 0 where
   pub roster : grown_of before.roster names ≡ Ok after.roster
   pub own : after.own ≡ before.own
   pub state : after.state ≡ before.state
@@ -71,12 +71,12 @@ pub record GrowsFile (words : GrowWords) (file : ReplacedValue) (answer : Reply)
   pub read : IsReplacedAt words.file.now file
   pub names : List (List ℕ)
   pub asked : names_for words ≡ Ok names
-  pub grown : IsGrown names file.before file.kept
+  pub grown : IsGrownByNames names file.before file.kept
   pub told : answer ≡ Done
 
 -- a grown replica can't be kept
 abbrev pub IsGrownUnkept : List (List ℕ) → ReplicaValue → Fault → Type 0
-IsGrownUnkept names before fault = (after : ReplicaValue) × IsGrown names before after × IsUnkept after fault
+IsGrownUnkept names before fault = (after : ReplicaValue) × IsGrownByNames names before after × IsUnkept after fault
 
 -- why a replica isn't grown and kept: no roster has these names too, and only where one has, that the new one can't be
 -- kept; want of memory comes only there too
@@ -113,7 +113,7 @@ delta_alone delta = record { roster = None; delta = delta }
 -- an edited replica can't be kept
 abbrev pub IsEditedUnkept : Command → ReplicaValue → Fault → Type 0
 IsEditedUnkept command before fault =
-    (after : ReplicaValue) × (answer : Reply) × IsEdited command before after answer × IsUnkept after fault
+    (after : ReplicaValue) × (answer : Reply) × AnswersEdited command before after answer × IsUnkept after fault
 
 -- why a replica isn't edited and kept: what the edit itself is refused by, and only where that is nothing, that the new
 -- one can't be kept; want of memory comes only there too
@@ -129,7 +129,7 @@ pub record EditsFile (path : List ℕ) (words : EditWords) (file : ReplacedValue
   pub command : Command
   pub asked : IsCommand words (Ok command)
   pub due : edit_refusal file.before command ≡ None
-  pub edited : IsEdited command file.before file.kept answer
+  pub edited : AnswersEdited command file.before file.kept answer
 
 -- why a command isn't carried out on the file at a path: it can't be locked and read, or the replica in it isn't edited
 abbrev pub RefusesCommand : List ℕ → Command → Fault → Type 0
@@ -154,7 +154,7 @@ pub record ShowsFile (layout : Layout) (path text : List ℕ) (file : FileValue)
 
 -- why nothing is shown: the text is no path; else there is no replica in the file
 abbrev pub RefusesShow : List ℕ → Fault → Type 0
-RefusesShow text fault = Refuses fault (path_of text) ⊎ (IsOk (path_of text) × IsUnread fault)
+RefusesShow text fault = Refuses fault (path_of text) ⊎ (IsOk (path_of text) × IsUnreadFile fault)
 
 -- ---- edits that may say nothing new
 
@@ -164,16 +164,16 @@ pub record EditsNew (path : List ℕ) (words : EditWords) (file : ReplacedValue)
   pub read : IsReplacedAt path file
   pub command : Command
   pub asked : IsCommand words (Ok command)
-  pub new : ¬ (Stands file.before.state command)
+  pub new : ¬ (StandsThere file.before.state command)
   pub due : edit_refusal file.before command ≡ None
-  pub edited : IsEdited command file.before file.kept answer
+  pub edited : AnswersEdited command file.before file.kept answer
 
 -- the file at this path was read under its lock, and what the words ask for stands in what it holds
 pub record IsSame (path : List ℕ) (words : EditWords) (file : KeptFile) : Type 0 where
   pub held : IsHeldAt path file
   pub command : Command
   pub asked : IsCommand words (Ok command)
-  pub stands : Stands file.kept.state command
+  pub stands : StandsThere file.kept.state command
 
 -- the file was edited, or it was left as it is, and that nothing changed is told
 abbrev pub EditsIfChanged : List ℕ → EditWords → Option ReplacedValue → Reply → Type 0

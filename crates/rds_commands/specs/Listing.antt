@@ -5,7 +5,7 @@ use Rattle.rds_names.specs.declared.fault.Fault.{Fault}
 use Rattle.rds_names.specs.declared.fault.Fault.TheVariants.{Usage}
 use Rattle.rds_names.specs.Gives.{Refuses}
 use Rattle.rds_names.specs.Path.{path_of}
-use Rattle.rds_files.specs.Files.{FileValue, IsReadAt, IsUnread}
+use Rattle.rds_files.specs.Files.{FileValue, IsReadAt, IsUnreadFile}
 use Rattle.rds_listing.specs.Differences.{differences_text}
 use Rattle.rds_listing.specs.Raw.{GivesRaw}
 use Rattle.rds_listing.specs.declared.bare.Raw.{Raw}
@@ -62,16 +62,16 @@ pub record ListsFile (lines_of : StateValue → List (List ℕ) → List ℕ) (p
 
 -- why nothing is listed: the text is no path; else there is no replica in the file
 abbrev pub RefusesList : List ℕ → Fault → Type 0
-RefusesList text fault = Refuses fault (path_of text) ⊎ (IsOk (path_of text) × IsUnread fault)
+RefusesList text fault = Refuses fault (path_of text) ⊎ (IsOk (path_of text) × IsUnreadFile fault)
 
 -- the status of lines: where there are none, and where there are some
-abbrev pub lines_status : ℕ → List ℕ → ℕ
-lines_status some [] = 0
-lines_status some (byte ∷ bytes) = some
+abbrev pub list_status : ℕ → List ℕ → ℕ
+list_status some [] = 0
+list_status some (byte ∷ bytes) = some
 
 -- the lines were written and nothing else, and their status is answered
 abbrev pub WritesLines : ℕ → List ℕ → Option (List ℕ) → Option (List ℕ) → ℕ → Type 0
-WritesLines some lines before after status = Appends before after lines × (status ≡ lines_status some lines)
+WritesLines some lines before after status = Appends before after lines × (status ≡ list_status some lines)
 
 -- such lines were written; or, for a fault, nothing
 abbrev pub WritesList : (StateValue → List (List ℕ) → List ℕ) → ℕ → List ℕ → List ℕ → Option (List ℕ)
@@ -95,4 +95,4 @@ pub record ComparesFiles (path other : List ℕ) (lines : List ℕ) : Type 0 whe
 abbrev pub WritesDiff : List ℕ → List ℕ → Option (List ℕ) → Option (List ℕ) → ℕ → Type 0
 WritesDiff path other before after status =
     ((lines : List ℕ) × ComparesFiles path other lines × WritesLines found_status lines before after status)
-    ⊎ ((fault : Fault) × IsUnread fault × WritesNothing fault before after status)
+    ⊎ ((fault : Fault) × IsUnreadFile fault × WritesNothing fault before after status)

@@ -7,7 +7,7 @@ use Rattle.rds_names.specs.Path.{path_of}
 use Rattle.rds_lines.specs.Overview.{TellsOverview}
 use Rattle.rds_lines.specs.Views.{TellsAt}
 use Rattle.rds_output.specs.declared.reply.Reply.{Reply}
-use Rattle.rds_files.specs.Files.{FileValue, IsReadAt, IsUnread}
+use Rattle.rds_files.specs.Files.{FileValue, IsReadAt, IsUnreadFile}
 use Rattle.rds_commands.specs.OfFile.{WritesOfFile}
 
 -- ---- get
@@ -31,7 +31,7 @@ IsBelowRoot text = (above : List (List ℕ)) × (key : List ℕ) × (path_of tex
 -- why nothing is told: the text is no path, or that of the root; else there is no replica in the file
 abbrev pub RefusesGet : List ℕ → Fault → Type 0
 RefusesGet text fault =
-    Refuses fault (path_of text) ⊎ (((fault ≡ BadPath) × IsRoot text) ⊎ (IsBelowRoot text × IsUnread fault))
+    Refuses fault (path_of text) ⊎ (((fault ≡ BadPath) × IsRoot text) ⊎ (IsBelowRoot text × IsUnreadFile fault))
 
 abbrev pub WritesGet : List ℕ → List ℕ → Option (List ℕ) → Option (List ℕ) → ℕ → Type 0
 WritesGet path text = WritesOfFile (GetsFile path text) (RefusesGet text)
@@ -44,4 +44,4 @@ pub record DescribesFile (path : List ℕ) (file : FileValue) (answer : Reply) :
   pub told : TellsOverview file.kept file.layout.snapshot (file.layout.whole - file.layout.snapshot) answer
 
 abbrev pub WritesStatus : List ℕ → Option (List ℕ) → Option (List ℕ) → ℕ → Type 0
-WritesStatus path = WritesOfFile (DescribesFile path) IsUnread
+WritesStatus path = WritesOfFile (DescribesFile path) IsUnreadFile

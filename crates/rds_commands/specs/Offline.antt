@@ -4,7 +4,7 @@ use Rattle.std.specs.Io.KnownBytes.{Appends}
 use Rattle.rds_names.specs.declared.fault.Fault.{Fault}
 use Rattle.rds_names.specs.declared.fault.Fault.TheVariants.{Device, Forked, Memory, Usage}
 use Rattle.rds_names.specs.Name.{name_of}
-use Rattle.rds_files.specs.Files.{FileValue, IsUnread, KeptFile, ReplacedValue}
+use Rattle.rds_files.specs.Files.{FileValue, IsUnreadFile, KeptFile, ReplacedValue}
 use Rattle.rds_offline.specs.Copies.{InitsFrom, InitsFromCopy, MergesFile, RefusesInitFrom, RefusesMergeFile}
 use Rattle.rds_offline.specs.Letters.{
   AnswersFile,
@@ -20,7 +20,7 @@ use Rattle.rds_output.specs.Reply.{WritesReply}
 use Rattle.rds_output.specs.declared.reply.Reply.TheVariants.{Done, Taken}
 use Rattle.rds_words.specs.declared.tasks.InitFromWords.{InitFromWords}
 use Rattle.rds_commands.specs.OfFile.{WritesOfFile}
-use Rattle.rds_commands.specs.Reading.{IsReadBy, text_read}
+use Rattle.rds_commands.specs.Reading.{IsReadOfInput, text_read}
 use Rattle.rds_commands.specs.Visits.{WritesVisitOf, is_site}
 use Rattle.rds_lines.specs.Streams.{NoneFailed, Stream}
 
@@ -67,7 +67,7 @@ WritesTold comes refuses before after status =
     ⊎ ((fault : Fault) × refuses fault × WritesNothing fault before after status)
 
 abbrev pub WritesAsk : List ℕ → Option (List ℕ) → Option (List ℕ) → ℕ → Type 0
-WritesAsk path = WritesTold (AsksFile path) IsUnread
+WritesAsk path = WritesTold (AsksFile path) IsUnreadFile
 
 -- the answer to a question
 abbrev pub WritesAnswer : List ℕ → List ℕ → Option (List ℕ) → Option (List ℕ) → ℕ → Type 0
@@ -101,7 +101,7 @@ IsUngiven fault = (fault ≡ Usage) ⊎ ((fault ≡ Device) ⊎ (fault ≡ Memor
 
 -- question and answer are what was read, where one is that of the input; of those in files nothing is said
 abbrev pub AreReadBy : Option (List ℕ) → List ℕ → List ℕ → List ℕ → List ℕ → Type 0
-AreReadBy held question answer q a = IsReadBy held question q × IsReadBy held answer a
+AreReadBy held question answer q a = IsReadOfInput held question q × IsReadOfInput held answer a
 
 -- the same of what these words name, or there is nothing
 abbrev pub WritesTake : List ℕ → List ℕ → List ℕ → Option (List ℕ) → Option (List ℕ) → Option (List ℕ) → ℕ → Type 0

@@ -12,5 +12,5 @@ abbrev pub text_read : List ℕ → List ℕ
 text_read input = take (LIMIT + 1) input
 
 -- where the word is that of the input, and it is known what that held, this is what was read of it
-abbrev pub IsReadBy : Option (List ℕ) → List ℕ → List ℕ → Type 0
-IsReadBy held word text = is_piped word ≡ true → IfSome held (λ input. text ≡ text_read input)
+abbrev pub IsReadOfInput : Option (List ℕ) → List ℕ → List ℕ → Type 0
+IsReadOfInput held word text = is_piped word ≡ true → IfSome held (λ input. text ≡ text_read input)

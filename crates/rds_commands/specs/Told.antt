@@ -29,7 +29,7 @@ use Rattle.rds_names.specs.Path.{path_of}
 use Rattle.rds_keep.specs.Parts.{AppendsFront, ConsumesAtMost, Grows}
 use Rattle.rds_lines.specs.Ahead.{most_given}
 use Rattle.rds_lines.specs.Answering.{WritesAnswers, WritesCut, WritesFront}
-use Rattle.rds_lines.specs.Streams.{NoneFailed, Stream, Tells}
+use Rattle.rds_lines.specs.Streams.{NoneFailed, Stream, Emits}
 use Rattle.rds_output.specs.Output.{Writes, fault_line}
 use Rattle.rds_output.specs.Reply.{WritesReply}
 use Rattle.rds_output.specs.declared.reply.Reply.TheVariants.{Done}
@@ -126,7 +126,7 @@ WritesSim input before after status =
 -- what becomes of a run of `sim`: what `AnswersLines` says of its lines; or, where there was no memory to read the
 -- words, that fault's line was written, or a beginning of it
 pub record RunsSim (reading writing : Stream) (status : ℕ) : Type 0 where
-  pub sim : IfSome reading.before (λ input. NoneFailed reading → Tells (WritesSim input) writing status)
+  pub sim : IfSome reading.before (λ input. NoneFailed reading → Emits (WritesSim input) writing status)
   pub cut : reading.CountRose → NoneFailed writing
       → WritesCut MayBeSimulated (fault_line Device) reading.before reading.after writing.before writing.after
       × (status ≡ 1)
@@ -309,5 +309,5 @@ AnswersMistake kinds before after status =
 
 -- the same, or a beginning of some text
 pub record TellsMistake (kinds : Kinds) (writing : Stream) (status : ℕ) : Type 0 where
-  pub told : Tells (AnswersMistake kinds) writing status
+  pub told : Emits (AnswersMistake kinds) writing status
   pub part : Grows writing.before writing.after

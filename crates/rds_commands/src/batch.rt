@@ -2,7 +2,7 @@
 ghost use Rattle.std.specs.Prelude.{◌≡◌, ◌≤◌, ◌⊎◌, Err, IfErr, IfOk};
 ghost use Rattle.rds_names.specs.declared.fault.Fault.TheVariants.{Memory};
 ghost use Rattle.rds_keep.specs.Changes.{IsChanged};
-ghost use Rattle.rds_lines.specs.Streams.{Tells, stream_of};
+ghost use Rattle.rds_lines.specs.Streams.{Emits, stream_of};
 ghost use Rattle.rds_lines.specs.Editing.{EditsLines};
 ghost use Rattle.rds_lines.specs.Lines.{lines_in};
 ghost use Rattle.rds_commands.specs.Edits.{delta_alone};
@@ -117,7 +117,7 @@ pub fn run_edit_lines<H: Disk, R: Read, W: Write>(
 ) -> u8
 where
     H::File: LockFile,
-    ensures written { Tells (WritesEditLines path.now (stream_of R.remaining reader.old reader.new))
+    ensures written { Emits (WritesEditLines path.now (stream_of R.remaining reader.old reader.new))
         (stream_of W.contents writer.old writer.new) result }
     ensures status { result ≤ 2 }
     ensures broken { (writer.new.failed ≡ writer.old.failed) ⊎ (result ≡ 1) }
@@ -150,7 +150,7 @@ pub fn read_lines<H: Disk, R: Read>(rt: &H, reader: &mut Counted<R>) -> Result<V
 fn edit_by<H: Disk, W: Write>(rt: &H, path: &str, input: &[u8], writer: &mut Counted<W>) -> u8
 where
     H::File: LockFile,
-    ensures written { Tells (WritesEdits path.now input.now) (stream_of W.contents writer.old writer.new) result }
+    ensures written { Emits (WritesEdits path.now input.now) (stream_of W.contents writer.old writer.new) result }
     ensures status { result ≤ 2 }
     ensures broken { (writer.new.failed ≡ writer.old.failed) ⊎ (result ≡ 1) }
 {

@@ -1,7 +1,7 @@
 //! Commands that call a site, whose address stands in place of a file.
 ghost use Rattle.std.specs.Prelude.{◌≡◌, ◌≤◌, ◌⊎◌, IfSome, is_some};
-ghost use Rattle.rds_lines.specs.Streams.{Tells, stream_of};
-ghost use Rattle.rds_commands.specs.Calls.{LacksAnswer, SuitsForm, WritesCall, calls_site, form_of, tells_fault};
+ghost use Rattle.rds_lines.specs.Streams.{Emits, stream_of};
+ghost use Rattle.rds_commands.specs.Calls.{LacksAnswer, SuitsForm, WritesCall, calls_site, form_of, writes_fault};
 
 use crate::batch::read_lines;
 use crate::listing::wanted_of;
@@ -159,14 +159,14 @@ impl<'a> Call<'a> {
 
     // Whether the fault by which there is no answer is written.
     fn tells_fault(self) -> bool
-        ensures { result ≡ tells_fault self.entry.form }
+        ensures { result ≡ writes_fault self.entry.form }
     {
         matches!(self.form, Form::Replies | Form::Lines)
     }
 
     // Writes the fault by which there is no answer, where that is to be, and answers the status.
     fn refuse<W: Write>(self, writer: &mut Counted<W>, fault: Fault) -> u8
-        ensures written { Tells (LacksAnswer self.entry.form fault) (stream_of W.contents writer.old writer.new) result }
+        ensures written { Emits (LacksAnswer self.entry.form fault) (stream_of W.contents writer.old writer.new) result }
         ensures status { result ≤ 2 }
         ensures broken { (writer.new.failed ≡ writer.old.failed) ⊎ (result ≡ 1) }
     {
@@ -200,7 +200,7 @@ pub fn run_call<H: Disk, R: Read, W: Write, T: RunSite<H>>(
     reader: &mut Counted<R>,
     writer: &mut Counted<W>,
 ) -> u8
-    ensures written { Tells (WritesCall call.entry.form) (stream_of W.contents writer.old writer.new) result }
+    ensures written { Emits (WritesCall call.entry.form) (stream_of W.contents writer.old writer.new) result }
     ensures status { result ≤ 3 }
     ensures broken { (writer.new.failed ≡ writer.old.failed) ⊎ (result ≡ 1) }
 {

@@ -14,8 +14,8 @@ ghost use Rattle.rds_commands.specs.Edits.{
   EditsIfChanged,
   GrowsFile,
   InitsFile,
-  IsEdited,
-  IsGrown,
+  AnswersEdited,
+  IsGrownByNames,
   RefusesCompact,
   RefusesEdit,
   RefusesEditIn,
@@ -113,7 +113,7 @@ where
     H::File: LockFile,
     ensures path { IfOk result (λ done. done.file.path ≡ file.entry.path) }
     ensures before { IfOk result (λ done. done.file.before ≡ file.entry.kept) }
-    ensures grown { IfOk result (λ done. IsGrown names.now file.entry.kept done.file.kept) }
+    ensures grown { IfOk result (λ done. IsGrownByNames names.now file.entry.kept done.file.kept) }
     ensures told { IfOk result (λ done. done.answer ≡ Done) }
     ensures fault { IfErr result (RefusesGrowIn names.now file.entry.kept) }
 {
@@ -183,7 +183,7 @@ where
     H::File: LockFile,
     ensures path { IfOk result (λ done. done.file.path ≡ file.entry.path) }
     ensures before { IfOk result (λ done. done.file.before ≡ file.entry.kept) }
-    ensures edited { IfOk result (λ done. IsEdited command file.entry.kept done.file.kept done.answer) }
+    ensures edited { IfOk result (λ done. AnswersEdited command file.entry.kept done.file.kept done.answer) }
     ensures due { IfOk result (λ _. edit_refusal file.entry.kept command ≡ None) }
     ensures fault { IfErr result (RefusesEditIn command file.entry.kept) }
 {
@@ -259,7 +259,7 @@ pub fn edited<S: DotSet>(
     replica: &mut Replica<S>,
     command: &Command,
 ) -> Result<(Reply, State<S>), Fault>
-    ensures edited { IfOk result (λ done. IsEdited command.now replica.old replica.new done.0) }
+    ensures edited { IfOk result (λ done. AnswersEdited command.now replica.old replica.new done.0) }
     ensures changed { IfOk result (λ done. IsChanged replica.old (delta_alone done.1) replica.new) }
     ensures refusal { let due = edit_refusal replica.old command.now in
         MatchResult result (λ _. due ≡ None) (IsDue due) }
@@ -277,7 +277,7 @@ pub fn grow<S: DotSet>(
     replica: &mut Replica<S>,
     names: &[Name],
 ) -> Result<Roster, Fault>
-    ensures grown { IfOk result (λ _. IsGrown names.now replica.old replica.new) }
+    ensures grown { IfOk result (λ _. IsGrownByNames names.now replica.old replica.new) }
     ensures roster { IfOk result (λ roster. roster ≡ replica.new.roster) }
     ensures refusal { let due = grown_of replica.old.roster names.now in
         MatchResult result (λ _. IsOk due) (λ fault. Refuses fault due) }

@@ -1,6 +1,6 @@
 //! Commands that tell scripts of the document of the replica in a file.
 ghost use Rattle.std.specs.Prelude.{◌≡◌, ◌≤◌, ◌⊎◌, [], IfErr, IfOk, string_bytes};
-ghost use Rattle.rds_lines.specs.Streams.{Tells, stream_of};
+ghost use Rattle.rds_lines.specs.Streams.{Emits, stream_of};
 ghost use Rattle.rds_listing.specs.Conflicts.{conflicts_text};
 ghost use Rattle.rds_listing.specs.Dump.{dump_text};
 ghost use Rattle.rds_commands.specs.Listing.{
@@ -15,7 +15,7 @@ ghost use Rattle.rds_commands.specs.Listing.{
   wanted_of,
 };
 ghost use Rattle.rds_commands.specs.Looks.{RefusesGet};
-ghost use Rattle.rds_files.specs.Files.{IsUnread};
+ghost use Rattle.rds_files.specs.Files.{IsUnreadFile};
 ghost use Rattle.rds_names.specs.declared.fault.Fault.TheVariants.{Memory};
 
 use crate::notes::{note_conflicts, note_files, note_part, note_several};
@@ -92,7 +92,7 @@ pub fn run_raw<H: Disk, W: Write>(
     wanted: Wanted,
     writer: &mut Counted<W>,
 ) -> u8
-    ensures written { Tells (WritesRaw path.now text.now wanted) (stream_of W.contents writer.old writer.new) result }
+    ensures written { Emits (WritesRaw path.now text.now wanted) (stream_of W.contents writer.old writer.new) result }
     ensures status { result ≤ 3 }
     ensures broken { (writer.new.failed ≡ writer.old.failed) ⊎ (result ≡ 1) }
 {
@@ -146,7 +146,7 @@ pub fn conflicts_file<'a, H: Disk>(
 
 /// Writes the lines of `dump_file`. The registers of which they set several values are told on standard error.
 pub fn run_dump<H: Disk, W: Write>(rt: &H, path: &str, text: &str, writer: &mut Counted<W>) -> u8
-    ensures written { Tells (WritesList dump_text 0 path.now text.now)
+    ensures written { Emits (WritesList dump_text 0 path.now text.now)
         (stream_of W.contents writer.old writer.new) result }
     ensures status { result ≤ 3 }
     ensures broken { (writer.new.failed ≡ writer.old.failed) ⊎ (result ≡ 1) }
@@ -170,7 +170,7 @@ pub fn run_conflicts<H: Disk, W: Write>(
     text: &str,
     writer: &mut Counted<W>,
 ) -> u8
-    ensures written { Tells (WritesList conflicts_text 3 path.now text.now)
+    ensures written { Emits (WritesList conflicts_text 3 path.now text.now)
         (stream_of W.contents writer.old writer.new) result }
     ensures status { result ≤ 3 }
     ensures broken { (writer.new.failed ≡ writer.old.failed) ⊎ (result ≡ 1) }
@@ -187,7 +187,7 @@ pub fn run_conflicts<H: Disk, W: Write>(
 /// The lines of what the documents of the replicas in two files don't both show.
 pub fn compare_files<H: Disk>(rt: &H, path: &str, other: &str) -> Result<String, Fault>
     ensures told { IfOk result (λ lines. ComparesFiles path.now other.now (string_bytes lines)) }
-    ensures fault { IfErr result IsUnread }
+    ensures fault { IfErr result IsUnreadFile }
 {
     let first: ReplicaFile<'_, GapSet> = ReplicaFile::open(rt, path)?;
     let second: ReplicaFile<'_, GapSet> = ReplicaFile::open(rt, other)?;
@@ -215,7 +215,7 @@ fn root_path(alloc: Global) -> Result<Path, Fault>
 
 /// Writes the lines of `compare_files`, and answers the status: 3 where there is one.
 pub fn run_diff<H: Disk, W: Write>(rt: &H, path: &str, other: &str, writer: &mut Counted<W>) -> u8
-    ensures written { Tells (WritesDiff path.now other.now) (stream_of W.contents writer.old writer.new) result }
+    ensures written { Emits (WritesDiff path.now other.now) (stream_of W.contents writer.old writer.new) result }
     ensures status { result ≤ 3 }
     ensures broken { (writer.new.failed ≡ writer.old.failed) ⊎ (result ≡ 1) }
 {
@@ -231,7 +231,7 @@ pub fn run_diff<H: Disk, W: Write>(rt: &H, path: &str, other: &str, writer: &mut
 // Writes lines, and answers the status: this one where there are some.
 fn write_lines<W: Write>(writer: &mut Counted<W>, lines: &str, some: u8) -> u8
     requires { some ≤ 3 }
-    ensures written { Tells (WritesLines some lines.now) (stream_of W.contents writer.old writer.new) result }
+    ensures written { Emits (WritesLines some lines.now) (stream_of W.contents writer.old writer.new) result }
     ensures status { result ≤ 3 }
     ensures broken { (writer.new.failed ≡ writer.old.failed) ⊎ (result ≡ 1) }
 {

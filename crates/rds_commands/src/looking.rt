@@ -2,8 +2,8 @@
 ghost use Rattle.std.specs.Prelude.{◌≡◌, ◌≤◌, ◌⊎◌, [], Err, IfErr, IfOk};
 ghost use Rattle.rds_names.specs.declared.fault.Fault.TheVariants.{BadPath};
 ghost use Rattle.rds_names.specs.Path.{path_of};
-ghost use Rattle.rds_lines.specs.Streams.{Tells, stream_of};
-ghost use Rattle.rds_files.specs.Files.{IsUnread};
+ghost use Rattle.rds_lines.specs.Streams.{Emits, stream_of};
+ghost use Rattle.rds_files.specs.Files.{IsUnreadFile};
 ghost use Rattle.rds_commands.specs.Looks.{DescribesFile, GetsFile, RefusesGet, WritesGet, WritesStatus};
 
 use crate::file_commands::FileAnswer;
@@ -43,7 +43,7 @@ pub fn describe_file<'a, H: Disk>(
     path: &'a str,
 ) -> Result<FileAnswer<ReplicaFile<'a, GapSet>>, Fault>
     ensures told { IfOk result (λ done. DescribesFile path.now done.file done.answer) }
-    ensures fault { IfErr result IsUnread }
+    ensures fault { IfErr result IsUnreadFile }
 {
     let file = ReplicaFile::open(rt, path)?;
     let layout = file.layout();
@@ -54,7 +54,7 @@ pub fn describe_file<'a, H: Disk>(
 
 /// Tells what stands at a path as `get_file` does, and writes the answer.
 pub fn run_get<H: Disk, W: Write>(rt: &H, path: &str, text: &str, writer: &mut Counted<W>) -> u8
-    ensures written { Tells (WritesGet path.now text.now) (stream_of W.contents writer.old writer.new) result }
+    ensures written { Emits (WritesGet path.now text.now) (stream_of W.contents writer.old writer.new) result }
     ensures status { result ≤ 2 }
     ensures broken { (writer.new.failed ≡ writer.old.failed) ⊎ (result ≡ 1) }
 {
@@ -64,7 +64,7 @@ pub fn run_get<H: Disk, W: Write>(rt: &H, path: &str, text: &str, writer: &mut C
 
 /// Tells whose replica a file holds as `describe_file` does, and writes the answer.
 pub fn run_status<H: Disk, W: Write>(rt: &H, path: &str, writer: &mut Counted<W>) -> u8
-    ensures written { Tells (WritesStatus path.now) (stream_of W.contents writer.old writer.new) result }
+    ensures written { Emits (WritesStatus path.now) (stream_of W.contents writer.old writer.new) result }
     ensures status { result ≤ 2 }
     ensures broken { (writer.new.failed ≡ writer.old.failed) ⊎ (result ≡ 1) }
 {

@@ -1,6 +1,6 @@
 //! Commands on files that meet without a connection, and what is written of them.
 ghost use Rattle.std.specs.Prelude.{◌≡◌, ◌≤◌, ◌⊎◌, false, IfErr, IfOk, Some, string_bytes};
-ghost use Rattle.rds_lines.specs.Streams.{Tells, stream_of};
+ghost use Rattle.rds_lines.specs.Streams.{Emits, stream_of};
 ghost use Rattle.rds_names.specs.declared.fault.Fault.TheVariants.{Device};
 ghost use Rattle.rds_output.specs.Output.{fault_status};
 ghost use Rattle.rds_commands.specs.Offline.{
@@ -22,7 +22,7 @@ ghost use Rattle.rds_commands.specs.Offline.{
   WritesTakeOf,
   fork_fault,
 };
-ghost use Rattle.rds_commands.specs.Reading.{IsReadBy, is_piped};
+ghost use Rattle.rds_commands.specs.Reading.{IsReadOfInput, is_piped};
 ghost use Rattle.rds_commands.specs.Visits.{WritesVisitOf};
 
 use crate::letter_notes::{note_answer, note_check, note_fork, note_take};
@@ -82,7 +82,7 @@ pub fn run_init_from<H: Disk, W: Write, T: RunSite<H>>(
 ) -> u8
 where
     H::File: LockFile,
-    ensures written { Tells (WritesInitFrom words.now) (stream_of W.contents writer.old writer.new) result }
+    ensures written { Emits (WritesInitFrom words.now) (stream_of W.contents writer.old writer.new) result }
     ensures status { result ≤ 2 }
     ensures broken { (writer.new.failed ≡ writer.old.failed) ⊎ (result ≡ 1) }
 {
@@ -100,7 +100,7 @@ fn init_from_file<H: Disk, W: Write>(
 ) -> u8
 where
     H::File: LockFile,
-    ensures written { Tells (WritesInitFromFile words.now) (stream_of W.contents writer.old writer.new) result }
+    ensures written { Emits (WritesInitFromFile words.now) (stream_of W.contents writer.old writer.new) result }
     ensures status { result ≤ 2 }
     ensures broken { (writer.new.failed ≡ writer.old.failed) ⊎ (result ≡ 1) }
 {
@@ -122,7 +122,7 @@ fn init_from_site<H: Disk, W: Write, T: RunSite<H>>(
 ) -> u8
 where
     H::File: LockFile,
-    ensures written { Tells (WritesInitFromSite words.now) (stream_of W.contents writer.old writer.new) result }
+    ensures written { Emits (WritesInitFromSite words.now) (stream_of W.contents writer.old writer.new) result }
     ensures status { result ≤ 2 }
     ensures broken { (writer.new.failed ≡ writer.old.failed) ⊎ (result ≡ 1) }
 {
@@ -161,7 +161,7 @@ where
 pub fn run_merge<H: Disk, W: Write>(rt: &H, path: &str, from: &str, writer: &mut Counted<W>) -> u8
 where
     H::File: LockFile,
-    ensures written { Tells (WritesMerge path.now from.now) (stream_of W.contents writer.old writer.new) result }
+    ensures written { Emits (WritesMerge path.now from.now) (stream_of W.contents writer.old writer.new) result }
     ensures status { result ≤ 2 }
     ensures broken { (writer.new.failed ≡ writer.old.failed) ⊎ (result ≡ 1) }
 {
@@ -180,7 +180,7 @@ where
 pub fn run_ask<H: Disk, W: Write>(rt: &H, path: &str, writer: &mut Counted<W>) -> u8
 where
     H::File: LockFile,
-    ensures written { Tells (WritesAsk path.now) (stream_of W.contents writer.old writer.new) result }
+    ensures written { Emits (WritesAsk path.now) (stream_of W.contents writer.old writer.new) result }
     ensures status { result ≤ 2 }
     ensures broken { (writer.new.failed ≡ writer.old.failed) ⊎ (result ≡ 1) }
 {
@@ -203,7 +203,7 @@ pub fn run_answer<H: Disk, R: Read, W: Write>(
 ) -> u8
 where
     H::File: LockFile,
-    ensures written { Tells (WritesAnswerTo path.now (stream_of R.remaining reader.old reader.new))
+    ensures written { Emits (WritesAnswerTo path.now (stream_of R.remaining reader.old reader.new))
         (stream_of W.contents writer.old writer.new) result }
     ensures status { result ≤ 2 }
     ensures broken { (writer.new.failed ≡ writer.old.failed) ⊎ (result ≡ 1) }
@@ -221,7 +221,7 @@ where
 fn answer_to<H: Disk, W: Write>(rt: &H, path: &str, question: &[u8], writer: &mut Counted<W>) -> u8
 where
     H::File: LockFile,
-    ensures written { Tells (WritesAnswer path.now question.now) (stream_of W.contents writer.old writer.new) result }
+    ensures written { Emits (WritesAnswer path.now question.now) (stream_of W.contents writer.old writer.new) result }
     ensures status { result ≤ 2 }
     ensures broken { (writer.new.failed ≡ writer.old.failed) ⊎ (result ≡ 1) }
 {
@@ -244,7 +244,7 @@ pub fn run_take<H: Disk, R: Read, W: Write>(
 ) -> u8
 where
     H::File: LockFile,
-    ensures written { Tells (WritesTake words.entry.file.now words.entry.question.now words.entry.answer.now (R.remaining reader.old.inner))
+    ensures written { Emits (WritesTake words.entry.file.now words.entry.question.now words.entry.answer.now (R.remaining reader.old.inner))
         (stream_of W.contents writer.old writer.new) result }
     ensures status { result ≤ 2 }
     ensures broken { (writer.new.failed ≡ writer.old.failed) ⊎ (result ≡ 1) }
@@ -265,7 +265,7 @@ fn take_both<H: Disk, W: Write>(
 ) -> u8
 where
     H::File: LockFile,
-    ensures written { Tells (WritesTakeOf path.now question.now answer.now)
+    ensures written { Emits (WritesTakeOf path.now question.now answer.now)
         (stream_of W.contents writer.old writer.new) result }
     ensures status { result ≤ 2 }
     ensures broken { (writer.new.failed ≡ writer.old.failed) ⊎ (result ≡ 1) }
@@ -286,7 +286,7 @@ fn told_answered<H: Disk, W: Write>(
     done: AnsweredFile<'_>,
     writer: &mut Counted<W>,
 ) -> u8
-    ensures written { Tells (WritesVisitOf (Some done.entry.components) (fork_fault done.entry.forked))
+    ensures written { Emits (WritesVisitOf (Some done.entry.components) (fork_fault done.entry.forked))
         (stream_of W.contents writer.old writer.new) result }
     ensures status { result ≤ 2 }
     ensures broken { (writer.new.failed ≡ writer.old.failed) ⊎ (result ≡ 1) }
@@ -321,7 +321,7 @@ pub fn run_check<H: Disk, R: Read, W: Write>(
     reader: &mut Counted<R>,
     writer: &mut Counted<W>,
 ) -> u8
-    ensures written { Tells (WritesCheck question.now answer.now (R.remaining reader.old.inner))
+    ensures written { Emits (WritesCheck question.now answer.now (R.remaining reader.old.inner))
         (stream_of W.contents writer.old writer.new) result }
     ensures status { result ≤ 2 }
     ensures broken { (writer.new.failed ≡ writer.old.failed) ⊎ (result ≡ 1) }
@@ -379,7 +379,7 @@ pub fn read_text<H: Disk, R: Read>(
     path: &str,
     reader: &mut Counted<R>,
 ) -> Result<Vec<u8>, Fault>
-    ensures read { IfOk result (λ text. IsReadBy (R.remaining reader.old.inner) path.now text.items) }
+    ensures read { IfOk result (λ text. IsReadOfInput (R.remaining reader.old.inner) path.now text.items) }
     ensures unused { is_piped path.now ≡ false → reader.new ≡ reader.old }
     ensures fault { IfErr result IsUngiven }
 {

@@ -1,6 +1,6 @@
 //! What is written of a command on a file: the answer that came with it, or why there is none.
 ghost use Rattle.std.specs.Prelude.{◌≡◌, ◌≤◌, ◌⊎◌};
-ghost use Rattle.rds_lines.specs.Streams.{Tells, stream_of};
+ghost use Rattle.rds_lines.specs.Streams.{Emits, stream_of};
 ghost use Rattle.rds_output.specs.Reply.{WritesReply};
 ghost use Rattle.rds_commands.specs.OfFile.{answer_of, taken_of};
 
@@ -20,7 +20,7 @@ pub fn told<F: Drop, W: Write, N: FnOnce(Fault) + Drop>(
     note: N,
 ) -> u8
     requires { N.IsAlwaysCallable note }
-    ensures written { Tells (WritesReply (answer_of done)) (stream_of W.contents writer.old writer.new) result }
+    ensures written { Emits (WritesReply (answer_of done)) (stream_of W.contents writer.old writer.new) result }
     ensures status { result ≤ 2 }
     ensures broken { (writer.new.failed ≡ writer.old.failed) ⊎ (result ≡ 1) }
 {
@@ -42,7 +42,7 @@ pub fn told_taken<H: Disk, W: Write, N: FnOnce(Fault) + Drop>(
     note: N,
 ) -> u8
     requires { N.IsAlwaysCallable note }
-    ensures written { Tells (WritesReply (taken_of done.entry)) (stream_of W.contents writer.old writer.new) result }
+    ensures written { Emits (WritesReply (taken_of done.entry)) (stream_of W.contents writer.old writer.new) result }
     ensures status { result ≤ 2 }
     ensures broken { (writer.new.failed ≡ writer.old.failed) ⊎ (result ≡ 1) }
 {

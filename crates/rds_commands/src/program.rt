@@ -3,7 +3,7 @@ ghost use Rattle.std.specs.Prelude.{◌≡◌, ◌≢◌, [], ◌≤◌, ◌⊎�
 ghost use Rattle.rds_lines.specs.Answering.{AnswersLines};
 ghost use Rattle.rds_lines.specs.Run.{RunsJoin};
 ghost use Rattle.rds_lines.specs.Sim.{MayBeSimulated};
-ghost use Rattle.rds_lines.specs.Streams.{Tells, stream_of};
+ghost use Rattle.rds_lines.specs.Streams.{Emits, stream_of};
 ghost use Rattle.rds_words.specs.Commands.{join_words, sim_words};
 ghost use Rattle.rds_words.specs.Entered.{Names, mistakes_in, named_in};
 ghost use Rattle.rds_commands.specs.Told.{MayWriteNamed, RunsSim, TellsMistake, WritesHere, WritesTask};
@@ -59,7 +59,7 @@ where
 
     // Other words that name a task, and words that the command line doesn't have.
     ensures task { mistakes_in (map S.text words.entry.now) ≡ []
-        → Tells (MayWriteNamed (named_in (map S.text words.entry.now)) (stream_of R.remaining reader.old reader.new))
+        → Emits (MayWriteNamed (named_in (map S.text words.entry.now)) (stream_of R.remaining reader.old reader.new))
         (stream_of W.contents writer.old writer.new) result }
     ensures mistake { mistakes_in (map S.text words.entry.now) ≢ []
         → TellsMistake (mistakes_in (map S.text words.entry.now)) (stream_of W.contents writer.old writer.new) result }
@@ -92,7 +92,7 @@ where
         → RunsJoin (stream_of R.remaining reader.old reader.new) (stream_of W.contents writer.old writer.new) result }
     ensures sim { task.entry ≡ Task.Sim → AnswersLines MayBeSimulated
         (stream_of R.remaining reader.old reader.new) (stream_of W.contents writer.old writer.new) result }
-    ensures written { Tells (WritesTask task.entry (stream_of R.remaining reader.old reader.new))
+    ensures written { Emits (WritesTask task.entry (stream_of R.remaining reader.old reader.new))
         (stream_of W.contents writer.old writer.new) result }
     ensures status { result ≤ 3 }
     ensures broken { (writer.new.failed ≡ writer.old.failed) ⊎ (result ≡ 1) }
@@ -117,7 +117,7 @@ where
         → RunsJoin (stream_of R.remaining reader.old reader.new) (stream_of W.contents writer.old writer.new) result }
     ensures sim { task.entry ≡ Task.Sim → AnswersLines MayBeSimulated
         (stream_of R.remaining reader.old reader.new) (stream_of W.contents writer.old writer.new) result }
-    ensures written { Tells (WritesHere task.entry (stream_of R.remaining reader.old reader.new))
+    ensures written { Emits (WritesHere task.entry (stream_of R.remaining reader.old reader.new))
         (stream_of W.contents writer.old writer.new) result }
     ensures status { result ≤ 3 }
     ensures broken { (writer.new.failed ≡ writer.old.failed) ⊎ (result ≡ 1) }

@@ -1,7 +1,7 @@
 //! The words of commands that make sessions.
 ghost use Rattle.std.specs.Prelude.{◌≡◌, ◌≤◌, ◌⊎◌, ◌||◌, Err, false, IsSome, None};
 ghost use Rattle.rds_names.specs.declared.fault.Fault.TheVariants.{Usage};
-ghost use Rattle.rds_lines.specs.Streams.{Tells, stream_of};
+ghost use Rattle.rds_lines.specs.Streams.{Emits, stream_of};
 ghost use Rattle.rds_commands.specs.Told.{
   RefusesServe,
   RefusesSync,
@@ -46,7 +46,7 @@ pub fn run_serve<H: Disk + Net, R: Read, W: Write>(
 ) -> u8
 where
     H::File: LockFile,
-    ensures written { Tells (WritesServe words.entry (stream_of R.remaining reader.old reader.new))
+    ensures written { Emits (WritesServe words.entry (stream_of R.remaining reader.old reader.new))
         (stream_of W.contents writer.old writer.new) result }
     ensures status { result ≤ 2 }
     ensures broken { (writer.new.failed ≡ writer.old.failed) ⊎ (result ≡ 1) }
@@ -61,9 +61,9 @@ where
 fn serve_at<H: Disk + Net, W: Write>(rt: &H, words: ServeWords<'_>, writer: &mut Counted<W>) -> u8
 where
     H::File: LockFile,
-    ensures written { Tells (WritesServeAt words.entry) (stream_of W.contents writer.old writer.new) result }
+    ensures written { Emits (WritesServeAt words.entry) (stream_of W.contents writer.old writer.new) result }
     ensures refused { RefusesServe words.entry
-        → Tells (Writes (Err Usage)) (stream_of W.contents writer.old writer.new) result }
+        → Emits (Writes (Err Usage)) (stream_of W.contents writer.old writer.new) result }
     ensures status { result ≤ 2 }
     ensures broken { (writer.new.failed ≡ writer.old.failed) ⊎ (result ≡ 1) }
 {
@@ -123,7 +123,7 @@ pub fn run_sync<H: Disk + Net, R: Read, W: Write, T: RunSite<H>>(
 ) -> u8
 where
     H::File: LockFile,
-    ensures written { Tells (WritesSyncing words.entry (stream_of R.remaining reader.old reader.new))
+    ensures written { Emits (WritesSyncing words.entry (stream_of R.remaining reader.old reader.new))
         (stream_of W.contents writer.old writer.new) result }
     ensures status { result ≤ 2 }
     ensures broken { (writer.new.failed ≡ writer.old.failed) ⊎ (result ≡ 1) }
@@ -144,9 +144,9 @@ fn sync_site<H: Disk, W: Write, T: RunSite<H>>(
     site: &T,
     writer: &mut Counted<W>,
 ) -> u8
-    ensures written { Tells (WritesSyncSite words.entry) (stream_of W.contents writer.old writer.new) result }
+    ensures written { Emits (WritesSyncSite words.entry) (stream_of W.contents writer.old writer.new) result }
     ensures refused { RefusesSync words.entry
-        → Tells (Writes (Err Usage)) (stream_of W.contents writer.old writer.new) result }
+        → Emits (Writes (Err Usage)) (stream_of W.contents writer.old writer.new) result }
     ensures status { result ≤ 2 }
     ensures broken { (writer.new.failed ≡ writer.old.failed) ⊎ (result ≡ 1) }
 {
@@ -167,9 +167,9 @@ fn sync_site<H: Disk, W: Write, T: RunSite<H>>(
 fn sync_at<H: Disk + Net, W: Write>(rt: &H, words: SyncWords<'_>, writer: &mut Counted<W>) -> u8
 where
     H::File: LockFile,
-    ensures written { Tells (WritesSyncAt words.entry) (stream_of W.contents writer.old writer.new) result }
+    ensures written { Emits (WritesSyncAt words.entry) (stream_of W.contents writer.old writer.new) result }
     ensures refused { RefusesSync words.entry
-        → Tells (Writes (Err Usage)) (stream_of W.contents writer.old writer.new) result }
+        → Emits (Writes (Err Usage)) (stream_of W.contents writer.old writer.new) result }
     ensures status { result ≤ 2 }
     ensures broken { (writer.new.failed ≡ writer.old.failed) ⊎ (result ≡ 1) }
 {
@@ -239,7 +239,7 @@ pub fn run_pair<H: Disk + Net, W: Write>(
 ) -> u8
 where
     H::File: LockFile,
-    ensures written { Tells (WritesPairing first.now second.now) (stream_of W.contents writer.old writer.new) result }
+    ensures written { Emits (WritesPairing first.now second.now) (stream_of W.contents writer.old writer.new) result }
     ensures status { result ≤ 2 }
     ensures broken { (writer.new.failed ≡ writer.old.failed) ⊎ (result ≡ 1) }
 {

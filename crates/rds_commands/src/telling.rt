@@ -1,6 +1,6 @@
 //! Commands on the replica in a file, and what is written of them.
 ghost use Rattle.std.specs.Prelude.{◌≡◌, ◌≤◌, ◌⊎◌, IfOk, IsOk};
-ghost use Rattle.rds_lines.specs.Streams.{Tells, stream_of};
+ghost use Rattle.rds_lines.specs.Streams.{Emits, stream_of};
 ghost use Rattle.rds_output.specs.declared.reply.Reply.TheVariants.{Done};
 ghost use Rattle.rds_words.specs.Meaning.{names_for};
 ghost use Rattle.rds_commands.specs.Offline.{WritesText};
@@ -36,7 +36,7 @@ use std::io::Write;
 pub fn run_init<H: Disk, W: Write>(rt: &H, words: &InitWords<'_>, writer: &mut Counted<W>) -> u8
 where
     H::File: LockFile,
-    ensures written { Tells (WritesInit words.now) (stream_of W.contents writer.old writer.new) result }
+    ensures written { Emits (WritesInit words.now) (stream_of W.contents writer.old writer.new) result }
     ensures status { result ≤ 2 }
     ensures broken { (writer.new.failed ≡ writer.old.failed) ⊎ (result ≡ 1) }
 {
@@ -54,7 +54,7 @@ pub fn run_grow<H: Disk, W: Write, T: RunSite<H>>(
 ) -> u8
 where
     H::File: LockFile,
-    ensures written { Tells (WritesGrowing words.now) (stream_of W.contents writer.old writer.new) result }
+    ensures written { Emits (WritesGrowing words.now) (stream_of W.contents writer.old writer.new) result }
     ensures status { result ≤ 2 }
     ensures broken { (writer.new.failed ≡ writer.old.failed) ⊎ (result ≡ 1) }
 {
@@ -68,7 +68,7 @@ where
 fn grow_here<H: Disk, W: Write>(rt: &H, words: &GrowWords<'_>, writer: &mut Counted<W>) -> u8
 where
     H::File: LockFile,
-    ensures written { Tells (WritesGrow words.now) (stream_of W.contents writer.old writer.new) result }
+    ensures written { Emits (WritesGrow words.now) (stream_of W.contents writer.old writer.new) result }
     ensures status { result ≤ 2 }
     ensures broken { (writer.new.failed ≡ writer.old.failed) ⊎ (result ≡ 1) }
 {
@@ -116,7 +116,7 @@ fn ask_for_names<H: Disk, T: RunSite<H>>(
 pub fn run_compact<H: Disk, W: Write>(rt: &H, path: &str, writer: &mut Counted<W>) -> u8
 where
     H::File: LockFile,
-    ensures written { Tells (WritesCompact path.now) (stream_of W.contents writer.old writer.new) result }
+    ensures written { Emits (WritesCompact path.now) (stream_of W.contents writer.old writer.new) result }
     ensures status { result ≤ 2 }
     ensures broken { (writer.new.failed ≡ writer.old.failed) ⊎ (result ≡ 1) }
 {
@@ -133,7 +133,7 @@ pub fn run_edit<H: Disk, W: Write>(
 ) -> u8
 where
     H::File: LockFile,
-    ensures written { Tells (WritesEdit path.now words.now) (stream_of W.contents writer.old writer.new) result }
+    ensures written { Emits (WritesEdit path.now words.now) (stream_of W.contents writer.old writer.new) result }
     ensures status { result ≤ 2 }
     ensures broken { (writer.new.failed ≡ writer.old.failed) ⊎ (result ≡ 1) }
 {
@@ -156,7 +156,7 @@ pub fn run_edit_if_changed<H: Disk, W: Write>(
 ) -> u8
 where
     H::File: LockFile,
-    ensures written { Tells (WritesIfChanged path.now words.now) (stream_of W.contents writer.old writer.new) result }
+    ensures written { Emits (WritesIfChanged path.now words.now) (stream_of W.contents writer.old writer.new) result }
     ensures status { result ≤ 2 }
     ensures broken { (writer.new.failed ≡ writer.old.failed) ⊎ (result ≡ 1) }
 {
@@ -179,7 +179,7 @@ pub fn run_show<H: Disk, W: Write>(
     layout: Layout,
     writer: &mut Counted<W>,
 ) -> u8
-    ensures written { Tells (WritesShow layout path.now text.now) (stream_of W.contents writer.old writer.new) result }
+    ensures written { Emits (WritesShow layout path.now text.now) (stream_of W.contents writer.old writer.new) result }
     ensures status { result ≤ 2 }
     ensures broken { (writer.new.failed ≡ writer.old.failed) ⊎ (result ≡ 1) }
 {
@@ -189,7 +189,7 @@ pub fn run_show<H: Disk, W: Write>(
 
 /// Writes a topic of `help`.
 pub fn run_text<W: Write>(text: &str, writer: &mut Counted<W>) -> u8
-    ensures written { Tells (WritesText text.now) (stream_of W.contents writer.old writer.new) result }
+    ensures written { Emits (WritesText text.now) (stream_of W.contents writer.old writer.new) result }
     ensures status { result ≤ 2 }
     ensures broken { (writer.new.failed ≡ writer.old.failed) ⊎ (result ≡ 1) }
 {

@@ -3,7 +3,7 @@ ghost use Rattle.std.specs.Prelude.{◌≡◌, ◌≤◌, OnOk, OnErr};
 ghost use Rattle.clap.specs.Words.{kind_of};
 ghost use Rattle.rds_names.specs.declared.fault.Fault.TheVariants.{Memory, Usage};
 ghost use Rattle.rds_keep.specs.Counted.{one_more};
-ghost use Rattle.rds_lines.specs.Streams.{Tells, stream_of};
+ghost use Rattle.rds_lines.specs.Streams.{Emits, stream_of};
 ghost use Rattle.rds_keep.specs.Parts.{AppendsFront, Grows};
 ghost use Rattle.rds_output.specs.Output.{AnswersStatus, fault_line};
 ghost use Rattle.rds_commands.specs.Unparsed.{AppendsBehind, WritesUnparsed, unparsed_status};
@@ -27,7 +27,7 @@ pub fn write_unparsed<H: Disk, W: Write, S: AsStr>(
     writer: &mut Counted<W>,
     error: &Error,
 ) -> u8
-    ensures written { Tells (WritesUnparsed (kind_of error.now)) (stream_of W.contents writer.old writer.new) result }
+    ensures written { Emits (WritesUnparsed (kind_of error.now)) (stream_of W.contents writer.old writer.new) result }
     ensures part { kind_of error.now ≡ ErrorKind.OutOfMemory
         → AppendsFront (W.contents writer.old.inner) (W.contents writer.new.inner) (fault_line Memory) }
     ensures kept { Grows (W.contents writer.old.inner) (W.contents writer.new.inner) }

@@ -3,7 +3,7 @@ ghost use Rattle.std.specs.Prelude.{◌≡◌, ◌≤◌, ◌⊎◌, None, IfErr
 ghost use Rattle.std.specs.Io.KnownBytes.{Appends};
 ghost use Rattle.rds_names.specs.declared.fault.Fault.TheVariants.{Device};
 ghost use Rattle.rds_keep.specs.Counted.{one_more};
-ghost use Rattle.rds_lines.specs.Streams.{Tells, stream_of};
+ghost use Rattle.rds_lines.specs.Streams.{Emits, stream_of};
 ghost use Rattle.rds_commands.specs.Visits.{WritesVisitOf, is_site, taken_text};
 
 use crate::site::Visit;
@@ -22,7 +22,7 @@ pub fn is_site(addr: &str) -> bool
 /// Writes what came of a meeting, and answers the status: how many components were taken, where an answer was judged,
 /// and then the fault that ended it. Where the output fails the status is 1.
 pub fn write_visit<W: Write>(writer: &mut Counted<W>, visit: Visit) -> u8
-    ensures written { Tells (WritesVisitOf visit.taken visit.fault) (stream_of W.contents writer.old writer.new) result }
+    ensures written { Emits (WritesVisitOf visit.taken visit.fault) (stream_of W.contents writer.old writer.new) result }
     ensures status { result ≤ 2 }
     ensures broken { (writer.new.failed ≡ writer.old.failed) ⊎ (result ≡ 1) }
 {
@@ -48,7 +48,7 @@ fn write_taken<W: Write>(writer: &mut Counted<W>, taken: Option<u128>) -> Result
 
 // Writes the fault that ended a meeting.
 fn write_ending<W: Write>(writer: &mut Counted<W>, fault: Option<Fault>) -> u8
-    ensures written { Tells (WritesVisitOf None fault) (stream_of W.contents writer.old writer.new) result }
+    ensures written { Emits (WritesVisitOf None fault) (stream_of W.contents writer.old writer.new) result }
     ensures status { result ≤ 2 }
     ensures broken { (writer.new.failed ≡ writer.old.failed) ⊎ (result ≡ 1) }
 {

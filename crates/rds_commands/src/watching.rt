@@ -1,6 +1,6 @@
 //! The command that follows a site.
 ghost use Rattle.std.specs.Prelude.{◌≡◌, ◌≤◌, ◌⊎◌};
-ghost use Rattle.rds_lines.specs.Streams.{Tells, stream_of};
+ghost use Rattle.rds_lines.specs.Streams.{Emits, stream_of};
 ghost use Rattle.rds_commands.specs.Told.{EndsWatch, WritesWatch};
 
 use crate::notes::{note_no_site, note_part};
@@ -21,7 +21,7 @@ pub fn run_watch<H: Disk, W: Write, T: RunSite<H>>(
     site: &T,
     writer: &mut Counted<W>,
 ) -> u8
-    ensures written { Tells (WritesWatch words.entry) (stream_of W.contents writer.old writer.new) result }
+    ensures written { Emits (WritesWatch words.entry) (stream_of W.contents writer.old writer.new) result }
     ensures status { result ≤ 2 }
     ensures broken { (writer.new.failed ≡ writer.old.failed) ⊎ (result ≡ 1) }
 {

@@ -122,8 +122,8 @@ pub record IsReplacedAt (path : List ℕ) (file : ReplacedValue) : Type 0 where
 -- ---- refusals
 
 -- why a file gives no replica: it can't be had, or holds none; or want of memory
-abbrev pub IsUnread : Fault → Type 0
-IsUnread fault = (fault ≡ Device) ⊎ IsOtherFault fault
+abbrev pub IsUnreadFile : Fault → Type 0
+IsUnreadFile fault = (fault ≡ Device) ⊎ IsOtherFault fault
 
 -- there is a file that holds more than a text may have, where it is known what it holds
 abbrev pub HoldsTooMuch : {F : Type 0} → (F → Option (List ℕ)) → Type 0
@@ -131,7 +131,7 @@ HoldsTooMuch {F} remaining = (file : F) × IfSome (remaining file) (λ input. LI
 
 -- why a file can't be locked and read: by its path; or it gives no replica
 abbrev pub RefusesLock : List ℕ → Fault → Type 0
-RefusesLock path fault = ((fault ≡ Usage) × (is_beside path ≡ true)) ⊎ IsUnread fault
+RefusesLock path fault = ((fault ≡ Usage) × (is_beside path ≡ true)) ⊎ IsUnreadFile fault
 
 -- why a replica can't be kept in a file: a call on a file failed, or its text is above the limit; or want of memory; or
 -- it is written, and the system doesn't say that it lasts
@@ -146,8 +146,8 @@ IsTooLongOrLost fault = (fault ≡ TooLong) ⊎ (fault ≡ Memory)
 
 -- why no file can be made at a path, whatever it is to keep: by the path, since something is there, or since a call
 -- failed
-abbrev pub IsNoPlace : Fault → Type 0
-IsNoPlace fault = (fault ≡ Usage) ⊎ (fault ≡ Device)
+abbrev pub MakesNoFile : Fault → Type 0
+MakesNoFile fault = (fault ≡ Usage) ⊎ (fault ≡ Device)
 
 -- why no file is made for a replica: by its path, or since something is there; or the replica can't be kept
 abbrev pub RefusesFile : ReplicaValue → Fault → Type 0

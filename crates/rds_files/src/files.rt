@@ -5,7 +5,7 @@ ghost use Rattle.rds_codec.specs.StateTexts.{IsSnapshot, snapshot_text};
 ghost use Rattle.rds_codec.specs.declared.limits.TheConstants.{LIMIT};
 ghost use Rattle.rds_keep.specs.Changes.{IsChanged};
 ghost use Rattle.rds_state.specs.Value.{size};
-ghost use Rattle.rds_files.specs.Files.{HoldsTooMuch, IsHeldAt, IsNoPlace, IsReadAt, IsReadBy, IsTooLongOrLost, IsUnkept, IsUnread, RefusesFile, RefusesLock, is_beside, read_more};
+ghost use Rattle.rds_files.specs.Files.{HoldsTooMuch, IsHeldAt, MakesNoFile, IsReadAt, IsReadBy, IsTooLongOrLost, IsUnkept, IsUnreadFile, RefusesFile, RefusesLock, is_beside, read_more};
 
 use crate::appending::{Tail, append_to, is_put_off, takes_record};
 use crate::beside::{Renewed, folder_of, keep_new, keep_over, renew};
@@ -63,7 +63,7 @@ impl<'a> FilePath<'a> {
     pub fn read<H: Disk, S: DotSet>(&mut self, rt: &H) -> Result<ReplicaFile<'a, S>, Fault>
         ensures read { IfOk result (IsReadBy self.old) }
         ensures counted { self.new ≡ read_more self.old }
-        ensures fault { IfErr result IsUnread }
+        ensures fault { IfErr result IsUnreadFile }
         ensures long { IfErr result (λ fault. fault ≡ TooLong → HoldsTooMuch H.File.remaining) }
     {
         let nth = self.count();
@@ -81,7 +81,7 @@ impl<'a> FilePath<'a> {
     pub fn read_lasting<H: Disk, S: DotSet>(&mut self, rt: &H) -> Result<ReplicaFile<'a, S>, Fault>
         ensures read { IfOk result (IsReadBy self.old) }
         ensures counted { self.new ≡ read_more self.old }
-        ensures fault { IfErr result IsUnread }
+        ensures fault { IfErr result IsUnreadFile }
         ensures long { IfErr result (λ fault. fault ≡ TooLong → HoldsTooMuch H.File.remaining) }
     {
         let nth = self.count();
@@ -128,7 +128,7 @@ impl<'a, S: DotSet> ReplicaFile<'a, S> {
     /// Reads the file of this path as it is now, as `FilePath::read` does.
     pub fn open<H: Disk>(rt: &H, path: &'a str) -> Result<ReplicaFile<'a, S>, Fault>
         ensures read { IfOk result (IsReadAt path.now) }
-        ensures fault { IfErr result IsUnread }
+        ensures fault { IfErr result IsUnreadFile }
         ensures long { IfErr result (λ fault. fault ≡ TooLong → HoldsTooMuch H.File.remaining) }
     {
         FilePath::new(path).read(rt)
@@ -137,7 +137,7 @@ impl<'a, S: DotSet> ReplicaFile<'a, S> {
     /// The same of a reading of which others are told, as `FilePath::read_lasting` does.
     pub fn open_lasting<H: Disk>(rt: &H, path: &'a str) -> Result<ReplicaFile<'a, S>, Fault>
         ensures read { IfOk result (IsReadAt path.now) }
-        ensures fault { IfErr result IsUnread }
+        ensures fault { IfErr result IsUnreadFile }
         ensures long { IfErr result (λ fault. fault ≡ TooLong → HoldsTooMuch H.File.remaining) }
     {
         FilePath::new(path).read_lasting(rt)
@@ -218,7 +218,7 @@ where
     /// a file that isn't one to be replaced.
     pub fn open_if_free(rt: &H, path: &'a str) -> Result<Option<LockedFile<'a, H, S>>, Fault>
         ensures held { IfOk result (λ file. IfSome file (IsHeldAt path.now)) }
-        ensures fault { IfErr result IsUnread }
+        ensures fault { IfErr result IsUnreadFile }
         ensures long { IfErr result (λ fault. fault ≡ TooLong → HoldsTooMuch H.File.remaining) }
     {
         if is_beside(path) {
@@ -242,7 +242,7 @@ where
     ) -> Result<LockedFile<'a, H, S>, Fault>
         requires place { is_beside path.now ≡ false }
         ensures held { IfOk result (IsHeldAt path.now) }
-        ensures fault { IfErr result IsUnread }
+        ensures fault { IfErr result IsUnreadFile }
         ensures long { IfErr result (λ fault. fault ≡ TooLong → HoldsTooMuch H.File.remaining) }
     {
         let Stored { kept, layout } = read_kept(rt, path, &mut file)?;
@@ -684,7 +684,7 @@ impl<'a, S: DotSet> CreatedFile<'a, S> {
         ensures fault { IfErr result (RefusesFile replica) }
         ensures limit { OnOk result (length (snapshot_text replica) ≤ LIMIT) }
         ensures long { LIMIT < length (snapshot_text replica)
-            → IfErr result (λ fault. IsTooLongOrLost fault ⊎ IsNoPlace fault) }
+            → IfErr result (λ fault. IsTooLongOrLost fault ⊎ MakesNoFile fault) }
     {
         if is_beside(path) {
             let _ = eprintln!(rt; "{path}: ends in .new, as a file that is written beside another");

@@ -3,7 +3,7 @@ ghost use Rattle.std.specs.Prelude.{◌≡◌, ◌<◌, length, IfOk, IfErr, IfS
 ghost use Rattle.rds_names.specs.declared.fault.Fault.TheVariants.{Device, TooLong};
 ghost use Rattle.rds_codec.specs.StateTexts.{IsSnapshot};
 ghost use Rattle.rds_codec.specs.declared.limits.TheConstants.{LIMIT};
-ghost use Rattle.rds_files.specs.Files.{HoldsTooMuch, IsUnread};
+ghost use Rattle.rds_files.specs.Files.{HoldsTooMuch, IsUnreadFile};
 
 use crate::disk::{Disk, note};
 use crate::lasting::make_last;
@@ -17,7 +17,7 @@ use std::io::Read;
 /// Reads the replica in the file of this path as it is now.
 pub fn read_now<H: Disk, S: DotSet>(rt: &H, path: &str) -> Result<Stored<S>, Fault>
     ensures value { IfOk result (λ stored. IsSnapshot stored.kept) }
-    ensures fault { IfErr result IsUnread }
+    ensures fault { IfErr result IsUnreadFile }
     ensures long { IfErr result (λ fault. fault ≡ TooLong → HoldsTooMuch H.File.remaining) }
 {
     let (_file, stored) = read_unlocked(rt, path, path)?;
@@ -27,7 +27,7 @@ pub fn read_now<H: Disk, S: DotSet>(rt: &H, path: &str) -> Result<Stored<S>, Fau
 /// Reads the replica in the file that this path leads to, and makes it last.
 pub fn read_to_last<H: Disk, S: DotSet>(rt: &H, path: &str) -> Result<Stored<S>, Fault>
     ensures value { IfOk result (λ stored. IsSnapshot stored.kept) }
-    ensures fault { IfErr result IsUnread }
+    ensures fault { IfErr result IsUnreadFile }
     ensures long { IfErr result (λ fault. fault ≡ TooLong → HoldsTooMuch H.File.remaining) }
 {
     let target = Target::find(rt, path)?;
@@ -44,7 +44,7 @@ fn read_unlocked<H: Disk, S: DotSet>(
     place: &str,
 ) -> Result<(H::File, Stored<S>), Fault>
     ensures value { IfOk result (λ read. IsSnapshot read.1.kept) }
-    ensures fault { IfErr result IsUnread }
+    ensures fault { IfErr result IsUnreadFile }
     ensures long { IfErr result (λ fault. fault ≡ TooLong → HoldsTooMuch H.File.remaining) }
 {
     let mut file = open_file(rt, place)?;
@@ -62,7 +62,7 @@ fn read_again<H: Disk, S: DotSet>(
     place: &str,
 ) -> Result<(H::File, Stored<S>), Fault>
     ensures value { IfOk result (λ read. IsSnapshot read.1.kept) }
-    ensures fault { IfErr result IsUnread }
+    ensures fault { IfErr result IsUnreadFile }
     ensures long { IfErr result (λ fault. fault ≡ TooLong → HoldsTooMuch H.File.remaining) }
 {
     let mut file = open_file(rt, place)?;
@@ -89,7 +89,7 @@ pub fn read_kept<H: Disk, S: DotSet, R: Read>(
     file: &mut R,
 ) -> Result<Stored<S>, Fault>
     ensures value { IfOk result (λ stored. IsSnapshot stored.kept) }
-    ensures fault { IfErr result IsUnread }
+    ensures fault { IfErr result IsUnreadFile }
     ensures long { IfErr result
         (λ fault. fault ≡ TooLong → IfSome (R.remaining file.old) (λ input. LIMIT < length input)) }
 {

@@ -14,7 +14,7 @@ use Rattle.rds_dots.specs.Listed.{lists, dots_from}
 use Rattle.rds_dots.specs.Sets.{contains_list, lists-dots_from}
 use Rattle.rds_dots.specs.Runs.{place, start, stop, begins_past, are_maximal}
 use Rattle.rds_dots.specs.RunFacts.{parts_of, lt_of, has_none, covers_is}
-use Rattle.rds_gaps.specs.RunSets.{dots_of, set_of, lists-dots_of}
+use Rattle.rds_gaps.specs.RunSets.{dots_in_runs, set_of, lists-dots_of}
 
 abbrev pub total : List Run → ℕ
 total rs = sum_by (λ (r : Run). r.hi + 1 - r.lo) rs
@@ -39,13 +39,13 @@ and_no : (a : Bool) → (a && false) ≡ false
 and_no true = refl
 and_no false = refl
 
-len_of : (rs : List Run) → are_maximal rs ≡ true → set.len (set.from_list {R = dot_cmp} (dots_of rs)) ≡ total rs
-unfolding dots_of
+len_of : (rs : List Run) → are_maximal rs ≡ true → set.len (set.from_list {R = dot_cmp} (dots_in_runs rs)) ≡ total rs
+unfolding dots_in_runs
 len_of [] max = set.len-empty dot_cmp
 len_of (r ∷ rs) max =
     let p = parts_of r rs max in
     let rises = p.bounds.rises in
-    len_from r.replica r.lo (r.hi + 1 - r.lo) (dots_of rs) (λ s le lt.
+    len_from r.replica r.lo (r.hi + 1 - r.lo) (dots_in_runs rs) (λ s le lt.
     let d : Dot = record { replica = r.replica; seq = s } in
     lists-dots_of rs d ∙ covers_is rs p.rest d ∙ ap (λ b. is_dot d && b) (has_none rs p.rest (stop r + 1) (place r.replica s) p.apart (omega arith)) ∙ and_no (is_dot d))
     ∙ ap (λ n. (r.hi + 1 - r.lo) + n) (len_of rs p.rest)

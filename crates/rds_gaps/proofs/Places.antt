@@ -15,7 +15,7 @@ use Rattle.rds_dots.specs.RunFacts.{Bounds, bounds_of, lt_of, start_stop, covers
 use Rattle.rds_dots.specs.RunsOf.{runs_unique}
 use Rattle.rds_gaps.specs.Added.{addition, last_start}
 use Rattle.rds_gaps.specs.Lookup.{IsParted}
-use Rattle.rds_gaps.specs.Inserted.{hull, insertion, IsCoalesced, Reaches}
+use Rattle.rds_gaps.specs.Inserted.{hull, insertion, IsCoalesced, ReachesRun}
 use Rattle.rds_gaps.proofs.Facts.{not_lt}
 use Rattle.rds_gaps.proofs.Lasts.{run_at}
 use Rattle.rds_gaps.proofs.Inserts.{bounds-hull, start-hull, inserted_union}
@@ -53,7 +53,7 @@ pub record Coalescing (rs : List Run) (from : ℕ) (z : Run) (to : ℕ) (whole :
 pub begin_coalescing : (rs : List Run) (from : ℕ) (z : Run) → from ≤ length rs → is_run z ≡ true → Coalescing rs from z from z
 begin_coalescing rs from z le is = record { in_order = omega arith; within = le; is = bounds_of z is; low = omega arith; same = refl; alone = λ _. refl }
 
-pub coalesce_more : (rs : List Run) (from : ℕ) (z : Run) (to : ℕ) (whole none more : Run) → are_maximal rs ≡ true → Reaches rs from z → Coalescing rs from z to whole → to < length rs → false ≡ ltb (stop whole + 1) (start (get_or rs to none)) → more ≡ hull (get_or rs to none) whole → Coalescing rs from z (to + 1) more
+pub coalesce_more : (rs : List Run) (from : ℕ) (z : Run) (to : ℕ) (whole none more : Run) → are_maximal rs ≡ true → ReachesRun rs from z → Coalescing rs from z to whole → to < length rs → false ≡ ltb (stop whole + 1) (start (get_or rs to none)) → more ≡ hull (get_or rs to none) whole → Coalescing rs from z (to + 1) more
 coalesce_more rs from z to whole none more max reach d lt touch e =
     let r = get_or rs to none in
     let in_order = d.in_order in
@@ -110,7 +110,7 @@ ends_near a lo ρ hi p h r = grind (arith, nat_tests)
 abbrev pub dot_before : Run → Dot
 dot_before z = record { replica = z.replica; seq = z.lo - 2 }
 
-pub reaches_from : (rs : List Run) → are_maximal rs ≡ true → (z : Run) → Bounds z → (i : ℕ) → IsParted (Some (dot_before z)) rs i → Reaches rs i z
+pub reaches_from : (rs : List Run) → are_maximal rs ≡ true → (z : Run) → Bounds z → (i : ℕ) → IsParted (Some (dot_before z)) rs i → ReachesRun rs i z
 reaches_from rs max z c i p k d le lt =
     let r = get_or rs k d in
     let b = bounds_of r (run_at rs max d k lt) in

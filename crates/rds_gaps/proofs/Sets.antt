@@ -11,7 +11,7 @@ use Rattle.rds_dots.specs.RunFacts.{Bounds, has, covers_is, maximal_by}
 use Rattle.std.proofs.Common.{Result, Ok, Err, OnOk, OnErr}
 use Rattle.rds_gaps.specs.Added.{addition}
 use Rattle.rds_gaps.specs.Operations.{IsUnion, IsDifference}
-use Rattle.rds_gaps.specs.RunSets.{set_of, dots_of, contains-set_of, runs_of-set_of}
+use Rattle.rds_gaps.specs.RunSets.{set_of, dots_in_runs, contains-set_of, runs_of-set_of}
 
 and_or : (d a b : Bool) → (d && (a || b)) ≡ ((d && a) || (d && b))
 and_or true a b = refl
@@ -58,7 +58,7 @@ pub first_of-set_of : (rs : List Run) → are_maximal rs ≡ true → (after : O
 first_of-set_of rs max after = ap (first_after after) (sym (runs_of-set_of rs max))
 
 pub set_of-none : (rs : List Run) → rs ≡ [] → set_of rs ≡ set.empty
-unfolding set_of dots_of
+unfolding set_of dots_in_runs
 set_of-none rs e = ap set_of e
 
 pub front_of : (rs : List Run) → slice_get rs 0 ≡ first_after None rs

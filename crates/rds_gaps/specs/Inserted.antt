@@ -14,8 +14,8 @@ insertion (r ∷ rs) z =
     if nat_lt (stop r + 1) (start z) then r ∷ insertion rs z else (if nat_lt (stop z + 1) (start r) then z ∷ r ∷ rs else insertion rs (hull r z))
 
 -- no run from a place on ends so early that dots lie between it and the run
-abbrev pub Reaches : List Run → ℕ → Run → Type 0
-Reaches rs from z = (k : ℕ) (d : Run) → from ≤ k → k < length rs → start z ≤ stop (slice_index_or rs k d) + 1
+abbrev pub ReachesRun : List Run → ℕ → Run → Type 0
+ReachesRun rs from z = (k : ℕ) (d : Run) → from ≤ k → k < length rs → start z ≤ stop (slice_index_or rs k d) + 1
 
 -- the run made one with the runs from one place up to another, where those begin that are left
 pub record IsCoalesced (rs : List Run) (from : ℕ) (z : Run) (to : ℕ) (whole : Run) : Type 0 where

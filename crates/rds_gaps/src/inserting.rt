@@ -5,7 +5,7 @@ ghost use Rattle.std.specs.List.{remove_range};
 ghost use Rattle.rds_dots.specs.declared.dot.Run.{Run};
 ghost use Rattle.rds_dots.specs.Runs.{start, stop, is_run, are_maximal};
 ghost use Rattle.rds_gaps.specs.Added.{last_start};
-ghost use Rattle.rds_gaps.specs.Inserted.{hull, insertion, IsCoalesced, Reaches};
+ghost use Rattle.rds_gaps.specs.Inserted.{hull, insertion, IsCoalesced, ReachesRun};
 
 use crate::merging::add_run;
 use crate::order::{begins_first, is_apart};
@@ -42,7 +42,7 @@ fn coalesced(runs: &[Run], from: usize, run: Run) -> (usize, Run)
     requires runs_are { IsTrue (are_maximal runs.now) }
     requires run_is { IsTrue (is_run run) }
     requires bound { from ≤ length runs.now }
-    requires reaches { Reaches runs.now from run }
+    requires reaches { ReachesRun runs.now from run }
     ensures { IsCoalesced runs.now from run result.0 result.1 }
 {
     let mut to = from;

@@ -4,7 +4,7 @@ use Rattle.std.specs.List.{count_by, list_all}
 use Rattle.std.proofs.lemmas.Fmt.{length-decimal-le_wide}
 use Rattle.std.proofs.lemmas.List.Sums.{sum_by-cons}
 use Rattle.rds_lines.specs.Editing.{EditsLines, EditsLinesBehind, EditsNext, MeetsCommand, MeetsEdit, edit_of_bytes}
-use Rattle.rds_lines.specs.Lines.{is_empty_line, lines_in, with_byte}
+use Rattle.rds_lines.specs.Lines.{is_empty_line, lines_in, line_with_byte}
 use Rattle.rds_names.specs.Fault.{name_of}
 use Rattle.rds_names.specs.Name.{is_name}
 use Rattle.rds_names.specs.declared.fault.Fault.{Fault}
@@ -22,7 +22,7 @@ use Rattle.rds_http.specs.Lines.{is_short, line_status, lines_status}
 -- ---- how many
 
 few_with : (t : Bool) (b : ℕ) (lines : List (List ℕ)) (n : ℕ) → length lines ≤ n + 1
-    → length (cond t ([] ∷ lines) (with_byte b lines)) ≤ (cond t 1 0 + n) + 1
+    → length (cond t ([] ∷ lines) (line_with_byte b lines)) ≤ (cond t 1 0 + n) + 1
 few_with true b lines n few = omega arith
 few_with false b [] n few = omega arith
 few_with false b (line ∷ lines) n few = omega arith

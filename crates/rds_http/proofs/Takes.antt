@@ -3,7 +3,7 @@ use Rattle.std.proofs.Common.{◌≡◌, ◌∙◌, ℕ, ◌≤◌, Bool, true, 
 use Rattle.std.specs.Prelude.{nat_le}
 use Rattle.std.proofs.lemmas.Bool.{le-leb}
 use Rattle.rds_names.specs.Roster.{RosterValue, longer}
-use Rattle.rds_offline.specs.Letters.{IsTaken, TakesResponse}
+use Rattle.rds_offline.specs.Letters.{IsTakenFrom, TakesResponse}
 use Rattle.rds_questions.specs.Receiving.{ReceivedValue}
 use Rattle.rds_state.specs.Fits.{ReplicaValue}
 use Rattle.rds_state.specs.Value.{StateValue, size}
@@ -25,7 +25,7 @@ same_parts v w roster own state =
     ∙ (ap (λ (n : ℕ). let t : ReplicaValue = record { roster = w.roster; own = n; state = v.state } in t) own
     ∙ ap (λ (s : StateValue). let t : ReplicaValue = record { roster = w.roster; own = w.own; state = s } in t) state)
 
-taken_nothing : (received : ReceivedValue) (before after : ReplicaValue) → IsTaken received before after → size received.delta ≡ 0
+taken_nothing : (received : ReceivedValue) (before after : ReplicaValue) → IsTakenFrom received before after → size received.delta ≡ 0
     → length after.roster.names ≤ length before.roster.names → after ≡ before
 taken_nothing received before after taken none few =
     let names : length (longer before.roster received.roster).names ≤ length before.roster.names =

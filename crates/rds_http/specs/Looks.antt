@@ -21,7 +21,7 @@ use Rattle.rds_names.specs.declared.fault.Fault.TheVariants.{BadKey, Memory}
 use Rattle.rds_page.specs.declared.TheConstants.{PAGE, POLICY}
 use Rattle.rds_state.specs.Fits.{ReplicaValue}
 use Rattle.rds_state.specs.Value.{StateValue}
-use Rattle.rds_store.specs.Looks.{IsValueText, RefusesPlace, here_text, told_at, view_text}
+use Rattle.rds_store.specs.Looks.{IsValueText, RefusesPlace, here_text, text_at_path, view_text}
 use Rattle.rds_store.specs.Meetings.{MayAsk}
 use Rattle.rds_http.specs.Refusals.{TellsFault, json}
 use Rattle.rds_http.specs.Replies.{Tells, TellsTagged, tag_fields, type_field}
@@ -45,7 +45,7 @@ TellsOf headers tag kind text response = TellsTagged (is_known headers (always t
 
 -- a text about a state, at the path that a place is
 abbrev pub told_in : (StateValue → List (List ℕ) → List ℕ) → StateValue → List ℕ → Result (List ℕ) Fault
-told_in text state place = path_in place >>= λ path. told_at text state path
+told_in text state place = path_in place >>= λ path. text_at_path text state path
 
 -- the text that is due is told, or the fault why there is none
 abbrev pub Shows : Entries FieldValue → StateValue → List ℕ → Result (List ℕ) Fault → Response → Type 0

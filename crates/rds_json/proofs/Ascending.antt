@@ -13,7 +13,7 @@ use Rattle.rds_names.specs.declared.scalar.Scalar.{Scalar}
 use Rattle.rds_tree.specs.Shown.{Shown, maps_of, views_shown}
 use Rattle.rds_tree.specs.declared.views.View.{View}
 use Rattle.rds_json.specs.Show.{scalars_data, with_values, with_sums, with_maps, data_of}
-use Rattle.rds_json.specs.Written.{Ascend}
+use Rattle.rds_json.specs.Written.{KeysAscend}
 
 less : (o : Ordering) → true ≡ is_lt o → o ≡ Less
 less Less is = refl
@@ -21,7 +21,7 @@ less Equal is = cc
 less Greater is = cc
 
 -- where each key is below the next
-pub ascend_by_pairs : {V : Type 0} (rows : List (List ℕ × V)) → IsAllAdjacentAnswer (λ x y b. b ≡ is_lt (slice_cmp nat_cmp x.0 y.0)) rows true → Ascend rows
+pub ascend_by_pairs : {V : Type 0} (rows : List (List ℕ × V)) → IsAllAdjacentAnswer (λ x y b. b ≡ is_lt (slice_cmp nat_cmp x.0 y.0)) rows true → KeysAscend rows
 unfolding IsStrictlySortedBy
 ascend_by_pairs [] pairs = tt
 ascend_by_pairs (r ∷ rows) pairs = sorted_from_all_adjacent nat_list_cmp_total (map (λ s. s.0) (r ∷ rows)) [] (λ k within.
@@ -46,7 +46,7 @@ first_stays shown k d ms (r ∷ rows) below =
     let above : slice_cmp nat_cmp r.0 k ≡ Greater = nat_list_cmp_total.antisymm r.0 k ∙ ap ordering_reverse below.0 in
     rw above (first_stays shown k d (put r.0 (shown r.1) ms) rows below.1)
 
-put_in_order : {V : Type 0} (shown : V → Data) (rows : List (List ℕ × V)) → Ascend rows → put_all shown no_members rows ≡ in_order shown rows
+put_in_order : {V : Type 0} (shown : V → Data) (rows : List (List ℕ × V)) → KeysAscend rows → put_all shown no_members rows ≡ in_order shown rows
 unfolding IsStrictlySortedBy
 put_in_order shown [] ascend = refl
 put_in_order shown (r ∷ rows) ascend = first_stays shown r.0 (shown r.1) no_members rows ascend.0 ∙ ap (member r.0 (shown r.1)) (put_in_order shown rows ascend.1)
@@ -67,11 +67,11 @@ same_keys : (rows : List (List ℕ × View)) → map (λ r. r.0) (views_shown ro
 same_keys [] = refl
 same_keys (r ∷ rows) = ap (λ ks. r.0 ∷ ks) (same_keys rows)
 
-pub values_in_order : (rows : List (List ℕ × List Scalar)) → Ascend rows → with_values no_members rows ≡ in_order scalars_data rows
+pub values_in_order : (rows : List (List ℕ × List Scalar)) → KeysAscend rows → with_values no_members rows ≡ in_order scalars_data rows
 values_in_order rows ascend = values_put no_members rows ∙ put_in_order scalars_data rows ascend
 
-pub sums_in_order : (rows : List (List ℕ × ℤ)) → Ascend rows → with_sums no_members rows ≡ in_order (λ z. number (of_integer z)) rows
+pub sums_in_order : (rows : List (List ℕ × ℤ)) → KeysAscend rows → with_sums no_members rows ≡ in_order (λ z. number (of_integer z)) rows
 sums_in_order rows ascend = sums_put no_members rows ∙ put_in_order (λ z. number (of_integer z)) rows ascend
 
-pub maps_in_order : (rows : List (List ℕ × View)) → Ascend rows → with_maps no_members (maps_of (views_shown rows)) ≡ in_order data_of (views_shown rows)
+pub maps_in_order : (rows : List (List ℕ × View)) → KeysAscend rows → with_maps no_members (maps_of (views_shown rows)) ≡ in_order data_of (views_shown rows)
 maps_in_order rows ascend = maps_put no_members (views_shown rows) ∙ put_in_order data_of (views_shown rows) (rw (same_keys rows) ascend)

@@ -9,7 +9,7 @@ use Rattle.rds_tree.specs.Parts.{only_key, only_rows}
 use Rattle.rds_tree.specs.Shown.{Shown, shows}
 use Rattle.rds_tree.proofs.Growing.{same_test}
 use Rattle.rds_json.specs.Show.{scalars_data}
-use Rattle.rds_json.specs.Standing.{counter_at, counter_data, standing_data, sum_at, values_at}
+use Rattle.rds_json.specs.Standing.{counter_standing, counter_data, standing_data, sum_standing, values_at}
 
 pub values_at-only : (key : List ℕ) (rows : List (List ℕ × List Scalar)) → values_at key (only_rows key rows) ≡ values_at key rows
 values_at-only key [] = refl
@@ -20,16 +20,16 @@ values_at-only key (r ∷ rows) =
       | false ↦ λ _. values_at-only key rows
     ] refl
 
-pub sum_at-only : (key : List ℕ) (rows : List (List ℕ × ℤ)) → sum_at key (only_rows key rows) ≡ sum_at key rows
+pub sum_at-only : (key : List ℕ) (rows : List (List ℕ × ℤ)) → sum_standing key (only_rows key rows) ≡ sum_standing key rows
 sum_at-only key [] = refl
 sum_at-only key (r ∷ rows) =
-    ap (λ b. sum_at key (cond b (r ∷ only_rows key rows) (only_rows key rows))) (sym (same_test r.0 key))
-    ∙ elim (bytes_eq r.0 key) as (λ b. bytes_eq r.0 key ≡ b → sum_at key (cond b (r ∷ only_rows key rows) (only_rows key rows)) ≡ cond b (Some r.1) (sum_at key rows)) [
-      | true ↦ λ is. ap (λ b. cond b (Some r.1) (sum_at key (only_rows key rows))) is
+    ap (λ b. sum_standing key (cond b (r ∷ only_rows key rows) (only_rows key rows))) (sym (same_test r.0 key))
+    ∙ elim (bytes_eq r.0 key) as (λ b. bytes_eq r.0 key ≡ b → sum_standing key (cond b (r ∷ only_rows key rows) (only_rows key rows)) ≡ cond b (Some r.1) (sum_standing key rows)) [
+      | true ↦ λ is. ap (λ b. cond b (Some r.1) (sum_standing key (only_rows key rows))) is
       | false ↦ λ _. sum_at-only key rows
     ] refl
 
-pub counter_at-only : (key : List ℕ) (counters : Option (List (List ℕ × ℤ))) → counter_at key (option_map (only_rows key) counters) ≡ counter_at key counters
+pub counter_at-only : (key : List ℕ) (counters : Option (List (List ℕ × ℤ))) → counter_standing key (option_map (only_rows key) counters) ≡ counter_standing key counters
 counter_at-only key None = refl
 counter_at-only key (Some sums) = sum_at-only key sums
 

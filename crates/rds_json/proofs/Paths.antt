@@ -12,12 +12,12 @@ use Rattle.rds_names.specs.declared.scalar.Scalar.{Scalar}
 use Rattle.rds_names.specs.declared.scalar.Scalar.TheVariants.{Null, Bool as Truth, Int, Text}
 use Rattle.rds_names.specs.Key.{is_key}
 use Rattle.rds_names.specs.Path.{path_of, pieces, cut}
-use Rattle.rds_json.specs.Limits.{IsPath, IsScalar}
+use Rattle.rds_json.specs.Limits.{IsPath, FitsScalar}
 use Rattle.rds_json.specs.Scalar.{scalar_of}
 use Rattle.rds_json.specs.Show.{scalar_data}
 use Rattle.rds_json.proofs.Outcomes.{ok_is, passed}
 
-pub scalar_read : (v : Scalar) → IsScalar v → scalar_of (scalar_data v) ≡ Ok v
+pub scalar_read : (v : Scalar) → FitsScalar v → scalar_of (scalar_data v) ≡ Ok v
 scalar_read Null h = refl
 scalar_read (Truth b) h = refl
 scalar_read (Int (pos n)) h = rw (lt-ltb n (2 ^ 63) h.sfits) refl

@@ -9,9 +9,9 @@ use Rattle.rds_state.specs.declared.command.Command.{Command}
 use Rattle.rds_state.specs.declared.command.Command.TheVariants.{Set, Add, Del, Clear, Inc, Dec}
 use Rattle.rds_json.specs.declared.line.Line.{Line}
 use Rattle.rds_json.specs.declared.line.Line.TheVariants.{Roster, Edit, Save, Crash, Ask, Answer, Take, Grow, Show}
-use Rattle.rds_json.specs.Limits.{IsLine, IsEdit, IsRoster}
+use Rattle.rds_json.specs.Limits.{IsLine, FitsEdit, IsRoster}
 use Rattle.rds_json.specs.Line.{line_in}
-use Rattle.rds_json.specs.RosterLine.{is_text, names_of, roster_at, roster_from}
+use Rattle.rds_json.specs.RosterLine.{is_text, names_of, roster_line, roster_from}
 use Rattle.rds_json.specs.Spelling.{edit_data, line_data, line_of_word}
 use Rattle.rds_json.specs.Unnamed.{edit_in}
 use Rattle.rds_json.proofs.Names.{items_back}
@@ -30,7 +30,7 @@ names_read (n ∷ ns) h = rw (and_left (is_name n) _ h, names_read ns (and_right
 members_read : (roster : RosterValue) → IsRoster roster → roster_from (string roster.group ∷ map string roster.names) ≡ Ok roster
 members_read roster h = rw (all_texts roster.names, h.0, names_read roster.names h.1, h.2) refl
 
-roster_read : (word : List ℕ) (roster : RosterValue) → IsRoster roster → roster_at (line_of_word word (string roster.group ∷ map string roster.names)) ≡ Ok roster
+roster_read : (word : List ℕ) (roster : RosterValue) → IsRoster roster → roster_line (line_of_word word (string roster.group ∷ map string roster.names)) ≡ Ok roster
 roster_read word roster h = ap (λ ds. roster_from (string roster.group ∷ ds)) (items_back (map string roster.names)) ∙ members_read roster h
 
 -- ---- all lines
@@ -54,7 +54,7 @@ line_read (Take answer) h = refl
 line_read (Grow name newcomer) h = rw (h.0, h.1) refl
 line_read (Show name path) h = rw (h.0, path_read path h.1) refl
 
-pub edit_read : (edit : Command) → IsEdit edit → edit_in (edit_data edit) ≡ Ok edit
+pub edit_read : (edit : Command) → FitsEdit edit → edit_in (edit_data edit) ≡ Ok edit
 edit_read (Set path value) h = rw (path_read path h.0, scalar_read value h.1) refl
 edit_read (Add path value) h = rw (path_read path h.0, scalar_read value h.1) refl
 edit_read (Del path value) h = rw (path_read path h.0, scalar_read value h.1) refl

@@ -7,7 +7,7 @@ use Rattle.serde_json.specs.Written.{members_outline}
 use Rattle.rds_tree.specs.Shown.{Shown, shows}
 use Rattle.rds_tree.specs.Shows.{maps_in, regs_in, sets_in, counters_in}
 use Rattle.rds_json.specs.Show.{data_of, maps_data, scalars_data, values_data}
-use Rattle.rds_json.specs.Standing.{counter_at, counter_data, standing_data, values_at}
+use Rattle.rds_json.specs.Standing.{counter_standing, counter_data, standing_data, values_at}
 use Rattle.rds_json.specs.Written.{counters_tokens, data_tokens}
 use Rattle.rds_json.proofs.Ascending.{in_order}
 
@@ -47,16 +47,16 @@ view_added s old a b c d e f g h new p q r t u v w x y =
     ∙ ap (λ ts. old ++ ts) (sym (view_tokens s)))
 
 standing_tokens : (k : List ℕ) (s : Shown) → data_tokens (standing_data k s)
-    ≡ begin_object ∷ (key (codes "counter") ∷ (data_tokens (counter_data (counter_at k (counters_in s))) ++ key (codes "reg") ∷ (data_tokens (scalars_data (values_at k (regs_in s)))
+    ≡ begin_object ∷ (key (codes "counter") ∷ (data_tokens (counter_data (counter_standing k (counters_in s))) ++ key (codes "reg") ∷ (data_tokens (scalars_data (values_at k (regs_in s)))
     ++ key (codes "set") ∷ (data_tokens (scalars_data (values_at k (sets_in s))) ++ end_object ∷ []))))
 standing_tokens k (shows maps regs sets counters) = refl
 
 -- what stands at a key, whose parts are added one after the other
 pub standing_added : (k : List ℕ) (s : Shown) (old a b c d e f g new : List Token) → a ≡ old ++ begin_object ∷ [] → b ≡ a ++ key (codes "counter") ∷ []
-    → c ≡ b ++ data_tokens (counter_data (counter_at k (counters_in s))) → d ≡ c ++ key (codes "reg") ∷ [] → e ≡ d ++ data_tokens (scalars_data (values_at k (regs_in s)))
+    → c ≡ b ++ data_tokens (counter_data (counter_standing k (counters_in s))) → d ≡ c ++ key (codes "reg") ∷ [] → e ≡ d ++ data_tokens (scalars_data (values_at k (regs_in s)))
     → f ≡ e ++ key (codes "set") ∷ [] → g ≡ f ++ data_tokens (scalars_data (values_at k (sets_in s))) → new ≡ g ++ end_object ∷ [] → new ≡ old ++ data_tokens (standing_data k s)
 standing_added k s old a b c d e f g new p q r t u v w x =
-    let cs = data_tokens (counter_data (counter_at k (counters_in s))) in
+    let cs = data_tokens (counter_data (counter_standing k (counters_in s))) in
     let rs = data_tokens (scalars_data (values_at k (regs_in s))) in
     let ss = data_tokens (scalars_data (values_at k (sets_in s))) in
     let kc = key (codes "counter") in

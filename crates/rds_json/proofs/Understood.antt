@@ -21,10 +21,10 @@ use Rattle.rds_json.specs.declared.parts.CounterAt.{CounterAt}
 use Rattle.rds_json.specs.declared.parts.GrowthAt.{GrowthAt}
 use Rattle.rds_json.specs.declared.parts.PlaceAt.{PlaceAt}
 use Rattle.rds_json.specs.declared.parts.ValueAt.{ValueAt}
-use Rattle.rds_json.specs.Limits.{IsAmount, IsKey, IsName, IsPath, IsRoster, IsScalar}
+use Rattle.rds_json.specs.Limits.{FitsAmount, IsKey, IsName, IsPath, IsRoster, FitsScalar}
 use Rattle.rds_json.specs.Members.{items_in, of_one, of_three, of_two}
-use Rattle.rds_json.specs.Parts.{answer_at, counter_at, growth_at, named_answer, named_counter, named_growth, named_place, named_value, number_alone, of_count, place_at, replica_at, value_at}
-use Rattle.rds_json.specs.RosterLine.{is_text, names_of, roster_at, roster_from}
+use Rattle.rds_json.specs.Parts.{answer_from, counter_from, growth_at, named_answer, named_counter, named_growth, named_place, named_value, number_alone, of_count, place_from, replica_from, value_at}
+use Rattle.rds_json.specs.RosterLine.{is_text, names_of, roster_line, roster_from}
 use Rattle.rds_json.specs.Scalar.{scalar_of, scalar_of_integer}
 use Rattle.rds_json.specs.Show.{scalar_data}
 use Rattle.rds_json.specs.Spelling.{amount_data, path_data, line_of_word}
@@ -49,10 +49,10 @@ text_back (string t) s h = ap string (some_is t s h)
 text_back (array ds) s h = none_is s h
 text_back (object ms) s h = none_is s h
 
-pub amount_back : (d : Data) (n : ℕ) → IsProper d → number_in d ≡ Some n → (d ≡ amount_data n) × IsAmount n
+pub amount_back : (d : Data) (n : ℕ) → IsProper d → number_in d ≡ Some n → (d ≡ amount_data n) × FitsAmount n
 amount_back null n p h = none_is n h
 amount_back (boolean b) n p h = none_is n h
-amount_back (number (unsigned m)) n p h = let is = some_is m n h in (ap amount_data is, subst IsAmount is p)
+amount_back (number (unsigned m)) n p h = let is = some_is m n h in (ap amount_data is, subst FitsAmount is p)
 amount_back (number (negative z)) n p h = none_is n h
 amount_back (number (float x)) n p h = none_is n h
 amount_back (string t) n p h = none_is n h
@@ -60,7 +60,7 @@ amount_back (array ds) n p h = none_is n h
 amount_back (object ms) n p h = none_is n h
 
 abbrev pub IsScalarAt : Data → Scalar → Type 0
-IsScalarAt d v = (d ≡ scalar_data v) × IsScalar v
+IsScalarAt d v = (d ≡ scalar_data v) × FitsScalar v
 
 integer_back : (n : ℕ) (v : Scalar) → scalar_of (number (unsigned n)) ≡ Ok v → IsScalarAt (number (unsigned n)) v
 integer_back n v h = by_test (ltb n (2 ^ 63)) refl h
@@ -122,12 +122,12 @@ key_back d key h = let m = there key_of (as_str d) key h in key_at d m.0 key m.1
 count_back : (o : Option ℕ) (n : ℕ) → of_one Ok o ≡ Ok n → o ≡ Some n
 count_back o n h = let m = there Ok o n h in m.1 ∙ ap Some (ok_is m.0 n m.2)
 
-pub replica_back : (word : List ℕ) (ds : List Data) (name : List ℕ) → replica_at (line_of_word word ds) ≡ Ok name → (ds ≡ string name ∷ []) × IsName name
+pub replica_back : (word : List ℕ) (ds : List Data) (name : List ℕ) → replica_from (line_of_word word ds) ≡ Ok name → (ds ≡ string name ∷ []) × IsName name
 replica_back word [] name h = let n = (counted 2 (line_of_word word []) (Err BadLine) name h).0 in absurd (omega (arith, n))
 replica_back word (a ∷ []) name h = let n = name_back a name h in (ap (λ d. d ∷ []) n.0, n.1)
 replica_back word (a ∷ b ∷ ds) name h = let n = (counted 2 (line_of_word word (a ∷ b ∷ ds)) (of_one name_of (as_str a)) name h).0 in absurd (omega (arith, n))
 
-pub alone_back : (word : List ℕ) (ds : List Data) (n : ℕ) → ListProper ds → number_alone (line_of_word word ds) ≡ Ok n → (ds ≡ amount_data n ∷ []) × IsAmount n
+pub alone_back : (word : List ℕ) (ds : List Data) (n : ℕ) → ListProper ds → number_alone (line_of_word word ds) ≡ Ok n → (ds ≡ amount_data n ∷ []) × FitsAmount n
 alone_back word [] n p h = let m = (counted 2 (line_of_word word []) (Err BadLine) n h).0 in absurd (omega (arith, m))
 alone_back word (a ∷ []) n p h = let m = amount_back a n p.0 (count_back (number_in a) n h) in (ap (λ d. d ∷ []) m.0, m.1)
 alone_back word (a ∷ b ∷ ds) n p h = let m = (counted 2 (line_of_word word (a ∷ b ∷ ds)) (of_one Ok (number_in a)) n h).0 in absurd (omega (arith, m))
@@ -141,13 +141,13 @@ same_three : {a b c d e f : Data} → a ≡ d → b ≡ e → c ≡ f → a ∷ 
 same_three p q r = rw (p, q, r) refl
 
 answer_parts : (a b : Data) (x : AnswerAt) → IsProper b → of_two named_answer (as_str a) (number_in b) ≡ Ok x
-    → (a ∷ b ∷ [] ≡ string x.name ∷ amount_data x.ask ∷ []) × IsName x.name × IsAmount x.ask
+    → (a ∷ b ∷ [] ≡ string x.name ∷ amount_data x.ask ∷ []) × IsName x.name × FitsAmount x.ask
 answer_parts a b x p h =
     let m = both named_answer (as_str a) (number_in b) x h in
     let n = bound (name_of m.0) (λ n. Ok (record { name = n; ask = m.1 })) x m.4 in
     let name = name_at a m.0 n.0 m.2 n.1 in
     let ask = amount_back b m.1 p m.3 in
-    subst (λ (y : AnswerAt). (a ∷ b ∷ [] ≡ string y.name ∷ amount_data y.ask ∷ []) × IsName y.name × IsAmount y.ask)
+    subst (λ (y : AnswerAt). (a ∷ b ∷ [] ≡ string y.name ∷ amount_data y.ask ∷ []) × IsName y.name × FitsAmount y.ask)
     (ok_is (record { name = n.0; ask = m.1 }) x n.2) (same_two name.0 ask.0, name.1, ask.1)
 
 growth_parts : (a b : Data) (x : GrowthAt) → of_two named_growth (as_str a) (as_str b) ≡ Ok x
@@ -173,7 +173,7 @@ place_parts a b x h =
     (ok_is (record { name = n.0; path = p.0 }) x p.2) (same_two name.0 path.0, name.1, path.1)
 
 value_parts : (a b c : Data) (x : ValueAt) → IsProper c → of_three named_value (as_str a) (as_str b) (Some c) ≡ Ok x
-    → (a ∷ b ∷ c ∷ [] ≡ string x.name ∷ path_data x.path ∷ scalar_data x.value ∷ []) × IsName x.name × IsPath x.path × IsScalar x.value
+    → (a ∷ b ∷ c ∷ [] ≡ string x.name ∷ path_data x.path ∷ scalar_data x.value ∷ []) × IsName x.name × IsPath x.path × FitsScalar x.value
 value_parts a b c x proper h =
     let m = both (λ s t. named_value s t c) (as_str a) (as_str b) x (two_of_three (as_str a) (as_str b) h) in
     let n = bound (name_of m.0) (λ n. path_of m.1 >>= λ p. scalar_of c >>= λ v. Ok (record { name = n; path = p; value = v })) x m.4 in
@@ -182,7 +182,7 @@ value_parts a b c x proper h =
     let name = name_at a m.0 n.0 m.2 n.1 in
     let path = path_at b m.1 p.0 m.3 p.1 in
     let value = scalar_back c v.0 proper v.1 in
-    subst (λ (y : ValueAt). (a ∷ b ∷ c ∷ [] ≡ string y.name ∷ path_data y.path ∷ scalar_data y.value ∷ []) × IsName y.name × IsPath y.path × IsScalar y.value)
+    subst (λ (y : ValueAt). (a ∷ b ∷ c ∷ [] ≡ string y.name ∷ path_data y.path ∷ scalar_data y.value ∷ []) × IsName y.name × IsPath y.path × FitsScalar y.value)
     (ok_is (record { name = n.0; path = p.0; value = v.0 }) x v.2) (same_three name.0 path.0 value.0, name.1, path.1, value.1)
   where
     two_of_three : (o p : Option (List ℕ)) → of_three named_value o p (Some c) ≡ Ok x → of_two (λ s t. named_value s t c) o p ≡ Ok x
@@ -191,7 +191,7 @@ value_parts a b c x proper h =
     two_of_three None t e = no_value BadLine x e
 
 counter_parts : (a b c : Data) (x : CounterAt) → IsProper c → of_three named_counter (as_str a) (as_str b) (number_in c) ≡ Ok x
-    → (a ∷ b ∷ c ∷ [] ≡ string x.name ∷ string x.key ∷ amount_data x.by ∷ []) × IsName x.name × IsKey x.key × IsAmount x.by
+    → (a ∷ b ∷ c ∷ [] ≡ string x.name ∷ string x.key ∷ amount_data x.by ∷ []) × IsName x.name × IsKey x.key × FitsAmount x.by
 counter_parts a b c x proper h =
     let m = all_three named_counter (as_str a) (as_str b) (number_in c) x h in
     let n = bound (name_of m.0) (λ n. key_of m.1 >>= λ k. Ok (record { name = n; key = k; by = m.2 })) x m.6 in
@@ -199,15 +199,15 @@ counter_parts a b c x proper h =
     let name = name_at a m.0 n.0 m.3 n.1 in
     let key = key_at b m.1 k.0 m.4 k.1 in
     let by = amount_back c m.2 proper m.5 in
-    subst (λ (y : CounterAt). (a ∷ b ∷ c ∷ [] ≡ string y.name ∷ string y.key ∷ amount_data y.by ∷ []) × IsName y.name × IsKey y.key × IsAmount y.by)
+    subst (λ (y : CounterAt). (a ∷ b ∷ c ∷ [] ≡ string y.name ∷ string y.key ∷ amount_data y.by ∷ []) × IsName y.name × IsKey y.key × FitsAmount y.by)
     (ok_is (record { name = n.0; key = k.0; by = m.2 }) x k.2) (same_three name.0 key.0 by.0, name.1, key.1, by.1)
 
 -- a line of another number of members is refused
 pub wrong_count : {X P : Type 0} (n : ℕ) (word : List ℕ) (ds : List Data) (said : Result X Fault) (x : X) → (suc (length (items_in (items_of ds))) ≡ n → ⊥) → of_count n (line_of_word word ds) said ≡ Ok x → P
 wrong_count n word ds said x other h = absurd (other (counted n (line_of_word word ds) said x h).0)
 
-pub answer_back : (word : List ℕ) (ds : List Data) (x : AnswerAt) → ListProper ds → answer_at (line_of_word word ds) ≡ Ok x
-    → (ds ≡ string x.name ∷ amount_data x.ask ∷ []) × IsName x.name × IsAmount x.ask
+pub answer_back : (word : List ℕ) (ds : List Data) (x : AnswerAt) → ListProper ds → answer_from (line_of_word word ds) ≡ Ok x
+    → (ds ≡ string x.name ∷ amount_data x.ask ∷ []) × IsName x.name × FitsAmount x.ask
 answer_back word [] x p h = wrong_count 3 word [] (Err BadLine) x (λ e. omega arith) h
 answer_back word (a ∷ []) x p h = wrong_count 3 word (a ∷ []) (of_two named_answer (as_str a) None) x (λ e. omega arith) h
 answer_back word (a ∷ b ∷ []) x p h = answer_parts a b x p.1.0 h
@@ -220,7 +220,7 @@ growth_back word (a ∷ []) x h = wrong_count 3 word (a ∷ []) (of_two named_gr
 growth_back word (a ∷ b ∷ []) x h = growth_parts a b x h
 growth_back word (a ∷ b ∷ c ∷ ds) x h = wrong_count 3 word (a ∷ b ∷ c ∷ ds) (of_two named_growth (as_str a) (as_str b)) x (λ e. omega arith) h
 
-pub place_back : (word : List ℕ) (ds : List Data) (x : PlaceAt) → place_at (line_of_word word ds) ≡ Ok x
+pub place_back : (word : List ℕ) (ds : List Data) (x : PlaceAt) → place_from (line_of_word word ds) ≡ Ok x
     → (ds ≡ string x.name ∷ path_data x.path ∷ []) × IsName x.name × IsPath x.path
 place_back word [] x h = wrong_count 3 word [] (Err BadLine) x (λ e. omega arith) h
 place_back word (a ∷ []) x h = wrong_count 3 word (a ∷ []) (of_two named_place (as_str a) None) x (λ e. omega arith) h
@@ -228,15 +228,15 @@ place_back word (a ∷ b ∷ []) x h = place_parts a b x h
 place_back word (a ∷ b ∷ c ∷ ds) x h = wrong_count 3 word (a ∷ b ∷ c ∷ ds) (of_two named_place (as_str a) (as_str b)) x (λ e. omega arith) h
 
 pub value_back : (word : List ℕ) (ds : List Data) (x : ValueAt) → ListProper ds → value_at (line_of_word word ds) ≡ Ok x
-    → (ds ≡ string x.name ∷ path_data x.path ∷ scalar_data x.value ∷ []) × IsName x.name × IsPath x.path × IsScalar x.value
+    → (ds ≡ string x.name ∷ path_data x.path ∷ scalar_data x.value ∷ []) × IsName x.name × IsPath x.path × FitsScalar x.value
 value_back word [] x p h = wrong_count 4 word [] (Err BadLine) x (λ e. omega arith) h
 value_back word (a ∷ []) x p h = wrong_count 4 word (a ∷ []) (of_three named_value (as_str a) None None) x (λ e. omega arith) h
 value_back word (a ∷ b ∷ []) x p h = wrong_count 4 word (a ∷ b ∷ []) (of_three named_value (as_str a) (as_str b) None) x (λ e. omega arith) h
 value_back word (a ∷ b ∷ c ∷ []) x p h = value_parts a b c x p.1.1.0 h
 value_back word (a ∷ b ∷ c ∷ d ∷ ds) x p h = wrong_count 4 word (a ∷ b ∷ c ∷ d ∷ ds) (of_three named_value (as_str a) (as_str b) (Some c)) x (λ e. omega arith) h
 
-pub counter_back : (word : List ℕ) (ds : List Data) (x : CounterAt) → ListProper ds → counter_at (line_of_word word ds) ≡ Ok x
-    → (ds ≡ string x.name ∷ string x.key ∷ amount_data x.by ∷ []) × IsName x.name × IsKey x.key × IsAmount x.by
+pub counter_back : (word : List ℕ) (ds : List Data) (x : CounterAt) → ListProper ds → counter_from (line_of_word word ds) ≡ Ok x
+    → (ds ≡ string x.name ∷ string x.key ∷ amount_data x.by ∷ []) × IsName x.name × IsKey x.key × FitsAmount x.by
 counter_back word [] x p h = wrong_count 4 word [] (Err BadLine) x (λ e. omega arith) h
 counter_back word (a ∷ []) x p h = wrong_count 4 word (a ∷ []) (of_three named_counter (as_str a) None None) x (λ e. omega arith) h
 counter_back word (a ∷ b ∷ []) x p h = wrong_count 4 word (a ∷ b ∷ []) (of_three named_counter (as_str a) (as_str b) None) x (λ e. omega arith) h
@@ -270,5 +270,5 @@ members_back (d ∷ ds) r h =
     subst (IsRosterAt (d ∷ ds)) (ok_is (record { group = k.0; names = ns.0 }) r made.1)
     (ap (λ e. e ∷ ds) key.0 ∙ ap (λ es. string k.0 ∷ es) names.0, (key.1, names.1, made.0))
 
-pub roster_back : (word : List ℕ) (ds : List Data) (r : RosterValue) → roster_at (line_of_word word ds) ≡ Ok r → IsRosterAt ds r
+pub roster_back : (word : List ℕ) (ds : List Data) (r : RosterValue) → roster_line (line_of_word word ds) ≡ Ok r → IsRosterAt ds r
 roster_back word ds r h = members_back ds r (ap roster_from (sym (items_back ds)) ∙ h)

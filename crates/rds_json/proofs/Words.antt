@@ -5,7 +5,7 @@ use Rattle.std.specs.List.{list_any}
 use Rattle.std.specs.Str.{bytes_eq}
 use Rattle.std.proofs.lemmas.Slice.Eq.{bytes_eq-Decides}
 use mathlib.Core.Bool.{false≢true}
-use Rattle.rds_json.specs.Spelling.{edit_words, line_words}
+use Rattle.rds_json.specs.Spelling.{edit_verbs, line_words}
 use Rattle.rds_json.specs.Verb.{verb_of}
 use Rattle.rds_json.specs.declared.verb.Verb.{Verb}
 use Rattle.rds_json.specs.declared.verb.Verb.TheVariants.{Roster, Edit, Save, Crash, Ask, Answer, Take, Grow, Show}
@@ -63,7 +63,7 @@ none_with (v ∷ vs) word h = none_test (bytes_eq word (word_of v)) (list_any (b
 pub other_word : (word : List ℕ) → list_any (bytes_eq word) line_words ≡ false → verb_of word ≡ None
 other_word word h = none_with verbs word h
 
-pub edit_known : (verb : EditVerb) → list_any (bytes_eq (edit_word_of verb)) edit_words ≡ true
+pub edit_known : (verb : EditVerb) → list_any (bytes_eq (edit_word_of verb)) edit_verbs ≡ true
 edit_known Set = refl
 edit_known Add = refl
 edit_known Del = refl

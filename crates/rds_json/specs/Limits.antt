@@ -21,33 +21,33 @@ IsKey key = is_key key ≡ true
 abbrev pub IsPath : List (List ℕ) → Type 0
 IsPath keys = (length keys ≤ 8) × (list_all is_key keys ≡ true)
 
-abbrev pub IsAmount : ℕ → Type 0
-IsAmount n = n < 2 ^ 64
+abbrev pub FitsAmount : ℕ → Type 0
+FitsAmount n = n < 2 ^ 64
 
-abbrev pub IsScalar : Scalar → Type 0
-IsScalar Null = ⊤
-IsScalar (Truth b) = ⊤
-IsScalar (Int z) = FitsSigned w64 z
-IsScalar (Text s) = length s ≤ 1024
+abbrev pub FitsScalar : Scalar → Type 0
+FitsScalar Null = ⊤
+FitsScalar (Truth b) = ⊤
+FitsScalar (Int z) = FitsSigned w64 z
+FitsScalar (Text s) = length s ≤ 1024
 
 abbrev pub IsRoster : RosterValue → Type 0
 IsRoster roster = IsKey roster.group × (list_all is_name roster.names ≡ true) × (are_names roster.names ≡ true)
 
-abbrev pub IsEdit : Command → Type 0
-IsEdit (Set path value) = IsPath path × IsScalar value
-IsEdit (Add path value) = IsPath path × IsScalar value
-IsEdit (Del path value) = IsPath path × IsScalar value
-IsEdit (Clear path) = IsPath path
-IsEdit (Inc key by) = IsKey key × IsAmount by
-IsEdit (Dec key by) = IsKey key × IsAmount by
+abbrev pub FitsEdit : Command → Type 0
+FitsEdit (Set path value) = IsPath path × FitsScalar value
+FitsEdit (Add path value) = IsPath path × FitsScalar value
+FitsEdit (Del path value) = IsPath path × FitsScalar value
+FitsEdit (Clear path) = IsPath path
+FitsEdit (Inc key by) = IsKey key × FitsAmount by
+FitsEdit (Dec key by) = IsKey key × FitsAmount by
 
 abbrev pub IsLine : Line → Type 0
 IsLine (Roster roster) = IsRoster roster
-IsLine (Edit name edit) = IsName name × IsEdit edit
+IsLine (Edit name edit) = IsName name × FitsEdit edit
 IsLine (Save name) = IsName name
 IsLine (Crash name) = IsName name
 IsLine (Ask name) = IsName name
-IsLine (Answer name ask) = IsName name × IsAmount ask
-IsLine (Take answer) = IsAmount answer
+IsLine (Answer name ask) = IsName name × FitsAmount ask
+IsLine (Take answer) = FitsAmount answer
 IsLine (Grow name newcomer) = IsName name × IsName newcomer
 IsLine (Show name path) = IsName name × IsPath path

@@ -7,9 +7,9 @@ use Rattle.serde_json.specs.Read.{read}
 use Rattle.rds_names.specs.declared.fault.Fault.TheVariants.{BadLine}
 use Rattle.rds_state.specs.declared.command.Command.{Command}
 use Rattle.rds_json.specs.declared.line.Line.{Line}
-use Rattle.rds_json.specs.Limits.{IsEdit, IsLine}
+use Rattle.rds_json.specs.Limits.{FitsEdit, IsLine}
 use Rattle.rds_json.specs.Line.{line_of}
-use Rattle.rds_json.specs.Spelling.{edit_data, edit_words, line_data, line_words, line_of_word}
+use Rattle.rds_json.specs.Spelling.{edit_data, edit_verbs, line_data, line_words, line_of_word}
 use Rattle.rds_json.specs.Unnamed.{edit_of}
 
 -- the text is this line's spelling as JSON, and the line is within the limits
@@ -18,7 +18,7 @@ IsTextOfLine text line = (read text ≡ Some (line_data line)) × IsLine line
 
 -- so for an edit that names no replica
 abbrev pub IsTextOfEdit : List ℕ → Command → Type 0
-IsTextOfEdit text edit = (read text ≡ Some (edit_data edit)) × IsEdit edit
+IsTextOfEdit text edit = (read text ≡ Some (edit_data edit)) × FitsEdit edit
 
 -- the text is an array of JSON whose first member is one of these words
 pub record HasWord (words : List (List ℕ)) (text : List ℕ) : Type 0 where
@@ -37,4 +37,4 @@ abbrev pub OtherLinesAreBad : Type 0
 OtherLinesAreBad = (text : List ℕ) → (HasWord line_words text → ⊥) → line_of text ≡ Err BadLine
 
 abbrev pub OtherEditsAreBad : Type 0
-OtherEditsAreBad = (text : List ℕ) → (HasWord edit_words text → ⊥) → edit_of text ≡ Err BadLine
+OtherEditsAreBad = (text : List ℕ) → (HasWord edit_verbs text → ⊥) → edit_of text ≡ Err BadLine

@@ -18,12 +18,12 @@ abbrev pub member_count : Data → ℕ
 member_count d = length (members d)
 
 -- the text at a place, of which the first is 0
-abbrev pub text_at : ℕ → Data → Option (List ℕ)
-text_at i d = option_and_then as_str (at i d)
+abbrev pub text_member : ℕ → Data → Option (List ℕ)
+text_member i d = option_and_then as_str (at i d)
 
 -- the whole number at a place that fits 64 bits
-abbrev pub number_at : ℕ → Data → Option ℕ
-number_at i d = option_and_then (λ n. option_and_then as_u64 (as_number n)) (at i d)
+abbrev pub number_member : ℕ → Data → Option ℕ
+number_member i d = option_and_then (λ n. option_and_then as_u64 (as_number n)) (at i d)
 
 -- ---- what is said of one, two or three members, where each is there and of its kind; else the line is bad
 

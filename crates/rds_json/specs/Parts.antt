@@ -14,7 +14,7 @@ use Rattle.rds_json.specs.declared.parts.GrowthAt.{GrowthAt}
 use Rattle.rds_json.specs.declared.parts.PlaceAt.{PlaceAt}
 use Rattle.rds_json.specs.declared.parts.ValueAt.{ValueAt}
 use Rattle.rds_names.specs.AndThen.{◌>>=◌}
-use Rattle.rds_json.specs.Members.{member_count, number_at, of_one, of_three, of_two, text_at}
+use Rattle.rds_json.specs.Members.{member_count, number_member, of_one, of_three, of_two, text_member}
 use Rattle.rds_json.specs.Scalar.{scalar_of}
 
 -- what a line of n members says; a line of another number says nothing
@@ -23,21 +23,21 @@ of_count n d said = if member_count d == n then said else Err BadLine
 
 -- ---- [WORD, W]
 
-abbrev pub replica_at : Data → Result (List ℕ) Fault
-replica_at d = of_count 2 d (of_one name_of (text_at 1 d))
+abbrev pub replica_from : Data → Result (List ℕ) Fault
+replica_from d = of_count 2 d (of_one name_of (text_member 1 d))
 
 -- ---- [WORD, K]
 
 abbrev pub number_alone : Data → Result ℕ Fault
-number_alone d = of_count 2 d (of_one Ok (number_at 1 d))
+number_alone d = of_count 2 d (of_one Ok (number_member 1 d))
 
 -- ---- [WORD, W, K]
 
 abbrev pub named_answer : List ℕ → ℕ → Result AnswerAt Fault
 named_answer name ask = name_of name >>= λ n. Ok (record { name = n; ask = ask })
 
-abbrev pub answer_at : Data → Result AnswerAt Fault
-answer_at d = of_count 3 d (of_two named_answer (text_at 1 d) (number_at 2 d))
+abbrev pub answer_from : Data → Result AnswerAt Fault
+answer_from d = of_count 3 d (of_two named_answer (text_member 1 d) (number_member 2 d))
 
 -- ---- [WORD, W, NAME]
 
@@ -45,15 +45,15 @@ abbrev pub named_growth : List ℕ → List ℕ → Result GrowthAt Fault
 named_growth name newcomer = name_of name >>= λ n. name_of newcomer >>= λ m. Ok (record { name = n; newcomer = m })
 
 abbrev pub growth_at : Data → Result GrowthAt Fault
-growth_at d = of_count 3 d (of_two named_growth (text_at 1 d) (text_at 2 d))
+growth_at d = of_count 3 d (of_two named_growth (text_member 1 d) (text_member 2 d))
 
 -- ---- [WORD, W, PATH]
 
 abbrev pub named_place : List ℕ → List ℕ → Result PlaceAt Fault
 named_place name path = name_of name >>= λ n. path_of path >>= λ p. Ok (record { name = n; path = p })
 
-abbrev pub place_at : Data → Result PlaceAt Fault
-place_at d = of_count 3 d (of_two named_place (text_at 1 d) (text_at 2 d))
+abbrev pub place_from : Data → Result PlaceAt Fault
+place_from d = of_count 3 d (of_two named_place (text_member 1 d) (text_member 2 d))
 
 -- ---- [WORD, W, PATH, VALUE]
 
@@ -62,12 +62,12 @@ named_value name path value =
     name_of name >>= λ n. path_of path >>= λ p. scalar_of value >>= λ v. Ok (record { name = n; path = p; value = v })
 
 abbrev pub value_at : Data → Result ValueAt Fault
-value_at d = of_count 4 d (of_three named_value (text_at 1 d) (text_at 2 d) (at 3 d))
+value_at d = of_count 4 d (of_three named_value (text_member 1 d) (text_member 2 d) (at 3 d))
 
 -- ---- [WORD, W, KEY, BY]
 
 abbrev pub named_counter : List ℕ → List ℕ → ℕ → Result CounterAt Fault
 named_counter name key by = name_of name >>= λ n. key_of key >>= λ k. Ok (record { name = n; key = k; by = by })
 
-abbrev pub counter_at : Data → Result CounterAt Fault
-counter_at d = of_count 4 d (of_three named_counter (text_at 1 d) (text_at 2 d) (number_at 3 d))
+abbrev pub counter_from : Data → Result CounterAt Fault
+counter_from d = of_count 4 d (of_three named_counter (text_member 1 d) (text_member 2 d) (number_member 3 d))

@@ -27,5 +27,5 @@ roster_from (group ∷ names) =
     then of_one key_of (as_str group) >>= (λ key. names_of names >>= λ ns. roster_of key ns)
     else Err BadLine
 
-abbrev pub roster_at : Data → Result RosterValue Fault
-roster_at d = roster_from (drop 1 (members d))
+abbrev pub roster_line : Data → Result RosterValue Fault
+roster_line d = roster_from (drop 1 (members d))

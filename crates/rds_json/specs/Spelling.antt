@@ -10,13 +10,13 @@ use Rattle.rds_json.specs.declared.line.Line.TheVariants.{Roster, Edit, Save, Cr
 use Rattle.rds_json.specs.Show.{scalar_data}
 
 -- the words of edits
-abbrev pub edit_words : List (List ℕ)
-edit_words = codes "set" ∷ codes "add" ∷ codes "del" ∷ codes "clear" ∷ codes "inc" ∷ codes "dec" ∷ []
+abbrev pub edit_verbs : List (List ℕ)
+edit_verbs = codes "set" ∷ codes "add" ∷ codes "del" ∷ codes "clear" ∷ codes "inc" ∷ codes "dec" ∷ []
 
 -- the words of all lines
 abbrev pub line_words : List (List ℕ)
 line_words =
-    codes "roster" ∷ edit_words
+    codes "roster" ∷ edit_verbs
     ++ codes "save" ∷ codes "crash" ∷ codes "ask" ∷ codes "answer" ∷ codes "take" ∷ codes "grow" ∷ codes "show" ∷ []
 
 -- the keys, with a '/' between each two

@@ -13,14 +13,14 @@ values_at key [] = []
 values_at key (r ∷ rows) = if bytes_eq r.0 key then r.1 else values_at key rows
 
 -- what the counter of a key stands at
-abbrev pub sum_at : List ℕ → List (List ℕ × ℤ) → Option ℤ
-sum_at key [] = None
-sum_at key (r ∷ rows) = if bytes_eq r.0 key then Some r.1 else sum_at key rows
+abbrev pub sum_standing : List ℕ → List (List ℕ × ℤ) → Option ℤ
+sum_standing key [] = None
+sum_standing key (r ∷ rows) = if bytes_eq r.0 key then Some r.1 else sum_standing key rows
 
 -- at the root alone there are counters
-abbrev pub counter_at : List ℕ → Option (List (List ℕ × ℤ)) → Option ℤ
-counter_at key None = None
-counter_at key (Some sums) = sum_at key sums
+abbrev pub counter_standing : List ℕ → Option (List (List ℕ × ℤ)) → Option ℤ
+counter_standing key None = None
+counter_standing key (Some sums) = sum_standing key sums
 
 abbrev pub counter_data : Option ℤ → Data
 counter_data None = null
@@ -31,4 +31,4 @@ abbrev pub standing_data : List ℕ → Shown → Data
 standing_data key (shows maps regs sets counters) =
     object (put (codes "set") (scalars_data (values_at key sets))
     (put (codes "reg") (scalars_data (values_at key regs))
-    (put (codes "counter") (counter_data (counter_at key counters)) no_members)))
+    (put (codes "counter") (counter_data (counter_standing key counters)) no_members)))

@@ -17,7 +17,7 @@ use Rattle.rds_json.specs.declared.verb.Verb.{Verb}
 use Rattle.rds_json.specs.declared.verb.Verb.TheVariants as verbs
 use Rattle.rds_json.specs.declared.verb.EditVerb.{EditVerb}
 use Rattle.rds_json.specs.declared.verb.EditVerb.TheVariants as edits
-use Rattle.rds_json.specs.Members.{number_at, of_one, of_two, text_at}
+use Rattle.rds_json.specs.Members.{number_member, of_one, of_two, text_member}
 use Rattle.rds_json.specs.Parts.{of_count}
 use Rattle.rds_json.specs.Scalar.{scalar_of}
 use Rattle.rds_json.specs.Verb.{verb_at}
@@ -25,7 +25,7 @@ use Rattle.rds_json.specs.Verb.{verb_at}
 -- ---- [WORD, PATH]
 
 abbrev pub part_at : Data → Result (List (List ℕ)) Fault
-part_at d = of_count 2 d (of_one path_of (text_at 1 d))
+part_at d = of_count 2 d (of_one path_of (text_member 1 d))
 
 -- ---- [WORD, PATH, VALUE]
 
@@ -33,7 +33,7 @@ abbrev pub pathed_value : List ℕ → Data → Result ValuedAt Fault
 pathed_value path value = path_of path >>= λ p. scalar_of value >>= λ v. Ok (record { path = p; value = v })
 
 abbrev pub valued_at : Data → Result ValuedAt Fault
-valued_at d = of_count 3 d (of_two pathed_value (text_at 1 d) (at 2 d))
+valued_at d = of_count 3 d (of_two pathed_value (text_member 1 d) (at 2 d))
 
 -- ---- [WORD, KEY, BY]
 
@@ -41,7 +41,7 @@ abbrev pub keyed_count : List ℕ → ℕ → Result CountedAt Fault
 keyed_count key by = key_of key >>= λ k. Ok (record { key = k; by = by })
 
 abbrev pub counted_at : Data → Result CountedAt Fault
-counted_at d = of_count 3 d (of_two keyed_count (text_at 1 d) (number_at 2 d))
+counted_at d = of_count 3 d (of_two keyed_count (text_member 1 d) (number_member 2 d))
 
 -- ---- the line
 

@@ -2,7 +2,7 @@
 use Rattle.std.specs.Prelude.{ℕ, List, codes, Option, Some, None, option_and_then, if◌then◌else◌}
 use Rattle.std.specs.Str.{bytes_eq}
 use Rattle.serde_json.specs.Data.{Data}
-use Rattle.rds_json.specs.Members.{text_at}
+use Rattle.rds_json.specs.Members.{text_member}
 use Rattle.rds_json.specs.declared.verb.Verb.{Verb}
 use Rattle.rds_json.specs.declared.verb.Verb.TheVariants.{Roster, Edit, Save, Crash, Ask, Answer, Take, Grow, Show}
 use Rattle.rds_json.specs.declared.verb.EditVerb.TheVariants.{Set, Add, Del, Clear, Inc, Dec}
@@ -27,4 +27,4 @@ verb_of word =
 
 -- the verb that a value begins with
 abbrev pub verb_at : Data → Option Verb
-verb_at d = option_and_then verb_of (text_at 0 d)
+verb_at d = option_and_then verb_of (text_member 0 d)

@@ -19,13 +19,13 @@ counters_tokens None = []
 counters_tokens (Some rows) = key (codes "counters") ∷ data_tokens (sums_data rows)
 
 -- these tokens are added
-abbrev pub Adds : Written → Written → List Token → Type 0
-Adds old new ts = (new.before ≡ old.before) × (new.tokens ≡ old.tokens ++ ts)
+abbrev pub AddsTokens : Written → Written → List Token → Type 0
+AddsTokens old new ts = (new.before ≡ old.before) × (new.tokens ≡ old.tokens ++ ts)
 
 -- the text is that of the value whose tokens these are
-abbrev pub Tells : List ℕ → List Token → Type 0
-Tells text ts = (d : Data) → ts ≡ data_tokens d → text ≡ compact_text d
+abbrev pub TellsTokens : List ℕ → List Token → Type 0
+TellsTokens text ts = (d : Data) → ts ≡ data_tokens d → text ≡ compact_text d
 
 -- each key is below those after it
-abbrev pub Ascend : {V : Type 0} → List (List ℕ × V) → Type 0
-Ascend rows = IsStrictlySortedBy (slice_cmp nat_cmp) (map (λ r. r.0) rows)
+abbrev pub KeysAscend : {V : Type 0} → List (List ℕ × V) → Type 0
+KeysAscend rows = IsStrictlySortedBy (slice_cmp nat_cmp) (map (λ r. r.0) rows)

@@ -1,6 +1,6 @@
 //! The members of an array of JSON.
 ghost use Rattle.std.specs.Prelude.{◌≡◌, option_map};
-ghost use Rattle.rds_json.specs.Members.{member_count, number_at, text_at};
+ghost use Rattle.rds_json.specs.Members.{member_count, number_member, text_member};
 ghost use Rattle.serde_json.specs.View.{view};
 
 use serde_json::Value;
@@ -17,14 +17,14 @@ pub fn member_count(value: &Value) -> usize
 
 /// The text at a place, of which the first is 0.
 pub fn text_at(value: &Value, place: usize) -> Option<&str>
-    ensures { option_map (λ s. s.now) result ≡ text_at place (view value.now) }
+    ensures { option_map (λ s. s.now) result ≡ text_member place (view value.now) }
 {
     value.get(place).and_then(Value::as_str)
 }
 
 /// The whole number at a place that fits 64 bits.
 pub fn number_at(value: &Value, place: usize) -> Option<u64>
-    ensures { result ≡ number_at place (view value.now) }
+    ensures { result ≡ number_member place (view value.now) }
 {
     value.get(place).and_then(Value::as_u64)
 }

@@ -2,7 +2,7 @@
 //! first, then the members from left to right.
 ghost use Rattle.std.specs.Prelude.{◌≡◌};
 ghost use Rattle.rds_json.specs.MayGive.{MayGive};
-ghost use Rattle.rds_json.specs.Parts.{answer_at, counter_at, growth_at, named_answer, named_counter, named_growth, named_place, named_value, number_alone, place_at, replica_at, value_at};
+ghost use Rattle.rds_json.specs.Parts.{answer_from, counter_from, growth_at, named_answer, named_counter, named_growth, named_place, named_value, number_alone, place_from, replica_from, value_at};
 ghost use Rattle.serde_json.specs.View.{view};
 
 use crate::members::{member_count, number_at, text_at};
@@ -50,7 +50,7 @@ pub struct CounterAt {
 
 /// `[WORD, W]`
 pub fn replica_at(line: &Value) -> Result<Name, Fault>
-    ensures { result ≡ replica_at (view line.now) }
+    ensures { result ≡ replica_from (view line.now) }
 {
     if member_count(line) != 2 {
         return Err(Fault::BadLine);
@@ -73,7 +73,7 @@ pub fn number_alone(line: &Value) -> Result<u64, Fault>
 
 /// `[WORD, W, K]`
 pub fn answer_at(line: &Value) -> Result<AnswerAt, Fault>
-    ensures { result ≡ answer_at (view line.now) }
+    ensures { result ≡ answer_from (view line.now) }
 {
     if member_count(line) != 3 {
         return Err(Fault::BadLine);
@@ -99,7 +99,7 @@ pub fn growth_at(line: &Value) -> Result<GrowthAt, Fault>
 
 /// `[WORD, W, PATH]`
 pub fn place_at(alloc: Global, line: &Value) -> Result<PlaceAt, Fault>
-    ensures { MayGive result (place_at (view line.now)) }
+    ensures { MayGive result (place_from (view line.now)) }
 {
     if member_count(line) != 3 {
         return Err(Fault::BadLine);
@@ -125,7 +125,7 @@ pub fn value_at(alloc: Global, line: &Value) -> Result<ValueAt, Fault>
 
 /// `[WORD, W, KEY, BY]`
 pub fn counter_at(alloc: Global, line: &Value) -> Result<CounterAt, Fault>
-    ensures { MayGive result (counter_at (view line.now)) }
+    ensures { MayGive result (counter_from (view line.now)) }
 {
     if member_count(line) != 4 {
         return Err(Fault::BadLine);

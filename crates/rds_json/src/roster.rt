@@ -3,7 +3,7 @@ ghost use Rattle.std.specs.Prelude.{◌≡◌, ◌⊎◌, map, Ok, Err, IfOk, If
 ghost use Rattle.std.specs.List.{list_all};
 ghost use Rattle.rds_json.specs.MayGive.{MayGive};
 ghost use Rattle.rds_json.specs.Members.{of_one};
-ghost use Rattle.rds_json.specs.RosterLine.{is_text, names_of, roster_at, roster_from};
+ghost use Rattle.rds_json.specs.RosterLine.{is_text, names_of, roster_line, roster_from};
 ghost use Rattle.rds_names.specs.Key.{key_of};
 ghost use Rattle.rds_names.specs.Name.{name_of};
 ghost use Rattle.rds_names.specs.declared.fault.Fault.TheVariants.{Memory};
@@ -16,7 +16,7 @@ use std::alloc::Global;
 
 /// `["roster", GROUP, NAME, ..]`
 pub fn roster_at(alloc: Global, line: &Value) -> Result<Roster, Fault>
-    ensures { MayGive result (roster_at (view line.now)) }
+    ensures { MayGive result (roster_line (view line.now)) }
 {
     match line.as_array() {
         Some(members) => match members.as_slice().split_first() {

@@ -1,7 +1,7 @@
 //! What stands at a key of a view, as compact JSON.
 ghost use Rattle.std.specs.Prelude.{◌≡◌, IfErr, IfOk, OnOk, string_bytes};
-ghost use Rattle.rds_json.specs.Standing.{counter_at, counter_data, standing_data, sum_at, values_at};
-ghost use Rattle.rds_json.specs.Written.{Adds, data_tokens};
+ghost use Rattle.rds_json.specs.Standing.{counter_standing, counter_data, standing_data, sum_standing, values_at};
+ghost use Rattle.rds_json.specs.Written.{AddsTokens, data_tokens};
 ghost use Rattle.rds_names.specs.declared.fault.Fault.TheVariants.{Memory};
 ghost use Rattle.rds_tree.specs.Shown.{shown_view};
 ghost use Rattle.serde_json.specs.Written.{compact_text};
@@ -24,7 +24,7 @@ pub fn show_at(alloc: Global, shape: &View, key: &Key) -> Result<String, Fault>
 }
 
 fn write_standing(out: &mut Writer, shape: &View, key: &Key) -> Result<(), AllocError>
-    ensures ok { OnOk result (Adds out.old out.new (data_tokens (standing_data key.now (shown_view shape.now)))) }
+    ensures ok { OnOk result (AddsTokens out.old out.new (data_tokens (standing_data key.now (shown_view shape.now)))) }
 {
     out.begin_object()?;
     out.key("counter")?;
@@ -37,7 +37,7 @@ fn write_standing(out: &mut Writer, shape: &View, key: &Key) -> Result<(), Alloc
 }
 
 fn write_counter(out: &mut Writer, counter: Option<i64>) -> Result<(), AllocError>
-    ensures ok { OnOk result (Adds out.old out.new (data_tokens (counter_data counter))) }
+    ensures ok { OnOk result (AddsTokens out.old out.new (data_tokens (counter_data counter))) }
 {
     match counter {
         Some(number) => out.i64(number),
@@ -47,7 +47,7 @@ fn write_counter(out: &mut Writer, counter: Option<i64>) -> Result<(), AllocErro
 
 /// What the counter of a key stands at, where there are counters.
 pub fn counter_at(counters: &Option<Sums>, key: &Key) -> Option<i64>
-    ensures { result ≡ counter_at key.now counters.now }
+    ensures { result ≡ counter_standing key.now counters.now }
 {
     match counters {
         Some(sums) => sum_at(sums, key),
@@ -57,7 +57,7 @@ pub fn counter_at(counters: &Option<Sums>, key: &Key) -> Option<i64>
 
 /// What the counter of a key stands at.
 fn sum_at(sums: &Sums, key: &Key) -> Option<i64>
-    ensures { result ≡ sum_at key.now sums.now }
+    ensures { result ≡ sum_standing key.now sums.now }
 {
     let rows = sums.rows();
     for row in rows {

@@ -2,7 +2,7 @@
 ghost use Rattle.std.specs.Prelude.{◌≡◌, IfErr, IfOk, OnOk, string_bytes};
 ghost use Rattle.rds_json.specs.Show.{scalar_data, scalars_data};
 ghost use Rattle.rds_json.specs.Texts.{texts_data};
-ghost use Rattle.rds_json.specs.Written.{Adds, data_tokens};
+ghost use Rattle.rds_json.specs.Written.{AddsTokens, data_tokens};
 ghost use Rattle.rds_names.specs.declared.fault.Fault.TheVariants.{Memory};
 ghost use Rattle.serde_json.specs.Data.{string};
 ghost use Rattle.serde_json.specs.Written.{compact_text};
@@ -53,7 +53,7 @@ pub fn show_names(alloc: Global, names: &[Name]) -> Result<String, Fault>
 }
 
 fn write_names(out: &mut Writer, names: &[Name]) -> Result<(), AllocError>
-    ensures ok { OnOk result (Adds out.old out.new (data_tokens (texts_data names.now))) }
+    ensures ok { OnOk result (AddsTokens out.old out.new (data_tokens (texts_data names.now))) }
 {
     out.begin_array()?;
     for name in names {

@@ -2,7 +2,7 @@
 ghost use Rattle.std.specs.Prelude.{◌≡◌, ◌∷◌, [], IfErr, IfOk, IsTrue, OnOk, string_bytes};
 ghost use Rattle.json.specs.Token.{begin_object};
 ghost use Rattle.rds_json.specs.Show.{scalar_data, scalars_data, sums_data, values_data, maps_data, data_of};
-ghost use Rattle.rds_json.specs.Written.{Adds, Ascend, Tells, counters_tokens, data_tokens};
+ghost use Rattle.rds_json.specs.Written.{AddsTokens, KeysAscend, TellsTokens, counters_tokens, data_tokens};
 ghost use Rattle.rds_names.specs.declared.fault.Fault.TheVariants.{Memory};
 ghost use Rattle.rds_tree.specs.Shown.{maps_shown, shown_view};
 
@@ -29,7 +29,7 @@ impl From<AllocError> for Stop {
 /// The text of what is written.
 pub(crate) fn text_of(out: Writer) -> Result<String, Fault>
     requires { out.before ≡ [] }
-    ensures ok { IfOk result (λ text. Tells (string_bytes text) out.tokens) }
+    ensures ok { IfOk result (λ text. TellsTokens (string_bytes text) out.tokens) }
     ensures memory { IfErr result (λ fault. fault ≡ Memory) }
 {
     match String::from_utf8(out.into_inner()) {
@@ -39,7 +39,7 @@ pub(crate) fn text_of(out: Writer) -> Result<String, Fault>
 }
 
 pub(crate) fn write_scalar(out: &mut Writer, scalar: &Scalar) -> Result<(), AllocError>
-    ensures ok { OnOk result (Adds out.old out.new (data_tokens (scalar_data scalar.now))) }
+    ensures ok { OnOk result (AddsTokens out.old out.new (data_tokens (scalar_data scalar.now))) }
 {
     match scalar {
         Scalar::Null => out.null(),
@@ -50,7 +50,7 @@ pub(crate) fn write_scalar(out: &mut Writer, scalar: &Scalar) -> Result<(), Allo
 }
 
 pub(crate) fn write_scalars(out: &mut Writer, scalars: &[Scalar]) -> Result<(), AllocError>
-    ensures ok { OnOk result (Adds out.old out.new (data_tokens (scalars_data scalars.now))) }
+    ensures ok { OnOk result (AddsTokens out.old out.new (data_tokens (scalars_data scalars.now))) }
 {
     out.begin_array()?;
     for scalar in scalars {
@@ -61,15 +61,15 @@ pub(crate) fn write_scalars(out: &mut Writer, scalars: &[Scalar]) -> Result<(), 
 
 /// Whether each key is below the next.
 fn ascend<V>(rows: &[(Key, V)]) -> bool
-    ensures { IsTrue result → Ascend rows.now }
+    ensures { IsTrue result → KeysAscend rows.now }
 {
     rows.is_sorted_by(|lower, upper| lower.0 < upper.0)
 }
 
 /// Begins the object of rows, whose keys have to ascend.
 fn begin_rows<V>(out: &mut Writer, rows: &[(Key, V)]) -> Result<(), Stop>
-    ensures ascend { OnOk result (Ascend rows.now) }
-    ensures ok { OnOk result (Adds out.old out.new (begin_object ∷ [])) }
+    ensures ascend { OnOk result (KeysAscend rows.now) }
+    ensures ok { OnOk result (AddsTokens out.old out.new (begin_object ∷ [])) }
 {
     if !ascend(rows) {
         return Err(Stop::Disorder);
@@ -79,7 +79,7 @@ fn begin_rows<V>(out: &mut Writer, rows: &[(Key, V)]) -> Result<(), Stop>
 }
 
 fn write_values(out: &mut Writer, rows: &[(Key, Scalars)]) -> Result<(), Stop>
-    ensures ok { OnOk result (Adds out.old out.new (data_tokens (values_data rows.now))) }
+    ensures ok { OnOk result (AddsTokens out.old out.new (data_tokens (values_data rows.now))) }
 {
     begin_rows(out, rows)?;
     for row in rows {
@@ -91,7 +91,7 @@ fn write_values(out: &mut Writer, rows: &[(Key, Scalars)]) -> Result<(), Stop>
 }
 
 fn write_sums(out: &mut Writer, rows: &[(Key, i64)]) -> Result<(), Stop>
-    ensures ok { OnOk result (Adds out.old out.new (data_tokens (sums_data rows.now))) }
+    ensures ok { OnOk result (AddsTokens out.old out.new (data_tokens (sums_data rows.now))) }
 {
     begin_rows(out, rows)?;
     for row in rows {
@@ -103,7 +103,7 @@ fn write_sums(out: &mut Writer, rows: &[(Key, i64)]) -> Result<(), Stop>
 }
 
 fn write_counters(out: &mut Writer, counters: &Option<Sums>) -> Result<(), Stop>
-    ensures ok { OnOk result (Adds out.old out.new (counters_tokens counters.now)) }
+    ensures ok { OnOk result (AddsTokens out.old out.new (counters_tokens counters.now)) }
 {
     if let Some(sums) = counters {
         out.key("counters")?;
@@ -114,7 +114,7 @@ fn write_counters(out: &mut Writer, counters: &Option<Sums>) -> Result<(), Stop>
 
 #[cycle(write_view)]
 fn write_maps(out: &mut Writer, maps: &Maps) -> Result<(), Stop>
-    ensures ok { OnOk result (Adds out.old out.new (data_tokens (maps_data (maps_shown maps.now)))) }
+    ensures ok { OnOk result (AddsTokens out.old out.new (data_tokens (maps_data (maps_shown maps.now)))) }
 {
     let rows = maps.rows();
     begin_rows(out, rows)?;
@@ -129,7 +129,7 @@ fn write_maps(out: &mut Writer, maps: &Maps) -> Result<(), Stop>
 /// Writes a view whose keys ascend.
 #[cycle(write_view)]
 pub(crate) fn write_view(out: &mut Writer, shape: &View) -> Result<(), Stop>
-    ensures ok { OnOk result (Adds out.old out.new (data_tokens (data_of (shown_view shape.now)))) }
+    ensures ok { OnOk result (AddsTokens out.old out.new (data_tokens (data_of (shown_view shape.now)))) }
 {
     out.begin_object()?;
     write_counters(out, &shape.counters)?;

@@ -16,7 +16,7 @@ use Rattle.rds_json.specs.MayGive.{MayGive}
 use Rattle.rds_json.specs.Unnamed.{edit_of}
 use Rattle.rds_names.specs.Roster.{RosterValue}
 use Rattle.rds_output.specs.Reply.{edit_reply, reply_line, is_refusal}
-use Rattle.rds_lines.specs.Editing.{AnswersAs, AnswersNext, DoesCommand, DoesEdit, EditsLines, EditsLinesBehind, EditsNext, IsEdited, WritesAll, MeetsCommand, MeetsEdit, replies_text, edit_of_bytes, edit_refusal}
+use Rattle.rds_lines.specs.Editing.{AnswersLineAs, AnswersNext, DoesCommand, DoesEdit, EditsLines, EditsLinesBehind, EditsNext, AnswersEdited, WritesAll, MeetsCommand, MeetsEdit, replies_text, edit_of_bytes, edit_refusal}
 use Rattle.rds_lines.specs.Lines.{after_line, is_empty_line, is_text_line, lines_in, until_newline}
 use Rattle.rds_lines.specs.declared.ahead.TheConstants.{LINE_LIMIT}
 use Rattle.rds_output.specs.declared.reply.Reply.{Reply}
@@ -38,7 +38,7 @@ follows_last count input rest first now answers none follows =
 
 -- what the line and those after it make of the replica
 next_line : (empty : Bool) (line : ℕ) (bytes : List ℕ) (lines : List (List ℕ)) (now next after : ReplicaValue) (answers added more : List Reply)
-    → AnswersAs empty line bytes now next answers added → EditsLinesBehind line lines next after more
+    → AnswersLineAs empty line bytes now next answers added → EditsLinesBehind line lines next after more
     → (rest : List Reply) × EditsNext empty line bytes (EditsLinesBehind line lines) now after rest × (answers ++ rest ≡ added ++ more)
 next_line true line bytes lines now next after answers added more (same, none) later =
     (more, subst (λ (v : ReplicaValue). EditsLinesBehind line lines v after more) same later, ap (λ (a : List Reply). a ++ more) (sym none))
@@ -113,7 +113,7 @@ module _ (number : ℕ) (line text : List ℕ) (is : (is_text_line line ≡ true
       inr (subst (λ (r : Result Command Fault). MeetsCommand number r before (RefusedLine number fault) after) (asked command given) (inr (fault, due, (refl, same))))
 
   -- the edit is made
-  pub an_edit : (command : Command) (answer : Reply) → MayGive (Ok command) (edit_of text) → edit_refusal before command ≡ None → IsEdited command before after answer → MeetsEdit number line before answer after
+  pub an_edit : (command : Command) (answer : Reply) → MayGive (Ok command) (edit_of text) → edit_refusal before command ≡ None → AnswersEdited command before after answer → MeetsEdit number line before answer after
   an_edit command answer given due edited = inr (subst (λ (r : Result Command Fault). MeetsCommand number r before answer after) (asked command given) (inl (due, edited)))
 
   -- a command that wasn't done

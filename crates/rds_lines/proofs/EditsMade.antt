@@ -8,12 +8,12 @@ use Rattle.rds_state.specs.declared.command.Command.{Command}
 use Rattle.rds_world.specs.Replicas.{AreDone, IsMadeBy}
 use Rattle.rds_world.specs.World.{after_edit}
 use Rattle.rds_world.proofs.Edits.{edit_is}
-use Rattle.rds_lines.specs.Editing.{EditsFirst, EditsLinesBehind, EditsNext, IsEdited, MeetsCommand, MeetsEdit, edit_of_bytes, edit_refusal}
+use Rattle.rds_lines.specs.Editing.{EditsFirst, EditsLinesBehind, EditsNext, AnswersEdited, MeetsCommand, MeetsEdit, edit_of_bytes, edit_refusal}
 use Rattle.rds_lines.specs.Lines.{is_empty_line}
 use Rattle.rds_output.specs.declared.reply.Reply.{Reply}
 
 -- one command before others
-made_first : (c : Command) (commands : List Command) (before next after : ReplicaValue) (answer : Reply) → edit_refusal before c ≡ None → IsEdited c before next answer → IsMadeBy next commands after → IsMadeBy before (c ∷ commands) after
+made_first : (c : Command) (commands : List Command) (before next after : ReplicaValue) (answer : Reply) → edit_refusal before c ≡ None → AnswersEdited c before next answer → IsMadeBy next commands after → IsMadeBy before (c ∷ commands) after
 made_first c commands before next after answer due e later =
     let same : coordinates next.state ≡ after_edit (coordinates before.state) before.own c = edit_is (coordinates before.state) (coordinates next.state) before.own c e.joined in
     record {
@@ -25,7 +25,7 @@ made_first c commands before next after answer due e later =
 none_made : (before after : ReplicaValue) → after ≡ before → IsMadeBy before [] after
 none_made before after same = record { roster = ap (λ (v : ReplicaValue). v.roster) same; own = ap (λ (v : ReplicaValue). v.own) same; done = ap (λ (v : ReplicaValue). coordinates v.state) same }
 
-pub one_made : (c : Command) (before after : ReplicaValue) (answer : Reply) → edit_refusal before c ≡ None → IsEdited c before after answer → IsMadeBy before (c ∷ []) after
+pub one_made : (c : Command) (before after : ReplicaValue) (answer : Reply) → edit_refusal before c ≡ None → AnswersEdited c before after answer → IsMadeBy before (c ∷ []) after
 one_made c before after answer due e = made_first c [] before after after answer due e (none_made after after refl)
 
 abbrev Made : ReplicaValue → ReplicaValue → Type 0

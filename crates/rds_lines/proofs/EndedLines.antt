@@ -1,14 +1,14 @@
 -- The lines of bytes that have their newline.
 use Rattle.std.proofs.Common.{◌≡◌, ◌⊎◌, ℕ, ◌<◌, Bool, true, false, cond, eqb, List, [], ◌∷◌, ◌++◌, length, refl, sym, ap, ◌∙◌, append_assoc, arith, inl, inr}
 use Rattle.std.proofs.lemmas.Bool.{eqb-true}
-use Rattle.rds_lines.specs.Lines.{IsOneLine, after_line, ended_lines, until_newline, lines_in, with_byte, with_byte_in}
+use Rattle.rds_lines.specs.Lines.{IsOneLine, after_line, ended_lines, until_newline, lines_in, line_with_byte, with_byte_in}
 
 -- the first line, and the lines after it
 first_at : (t : Bool) (b : ℕ) (bytes : List ℕ) → (0 < length bytes → lines_in bytes ≡ until_newline bytes ∷ lines_in (after_line bytes))
-    → cond t ([] ∷ lines_in bytes) (with_byte b (lines_in bytes)) ≡ cond t [] (b ∷ until_newline bytes) ∷ lines_in (cond t bytes (after_line bytes))
+    → cond t ([] ∷ lines_in bytes) (line_with_byte b (lines_in bytes)) ≡ cond t [] (b ∷ until_newline bytes) ∷ lines_in (cond t bytes (after_line bytes))
 first_at true b bytes h = refl
 first_at false b [] h = refl
-first_at false b (c ∷ bytes) h = ap (with_byte b) (h (omega arith))
+first_at false b (c ∷ bytes) h = ap (line_with_byte b) (h (omega arith))
 
 pub lines_first : (bytes : List ℕ) → 0 < length bytes → lines_in bytes ≡ until_newline bytes ∷ lines_in (after_line bytes)
 lines_first [] lt = absurd (omega (arith, lt))
@@ -33,9 +33,9 @@ line_before [] rest one = refl
 line_before (b ∷ line) rest one = at_byte (eqb b 10) one (line_before line rest)
   where
     at_byte : (t : Bool) → cond t [] (b ∷ until_newline line) ≡ b ∷ line → (IsOneLine line → lines_in (line ++ 10 ∷ rest) ≡ line ∷ lines_in rest)
-        → cond t ([] ∷ lines_in (line ++ 10 ∷ rest)) (with_byte b (lines_in (line ++ 10 ∷ rest))) ≡ (b ∷ line) ∷ lines_in rest
+        → cond t ([] ∷ lines_in (line ++ 10 ∷ rest)) (line_with_byte b (lines_in (line ++ 10 ∷ rest))) ≡ (b ∷ line) ∷ lines_in rest
     at_byte true one h = absurd cc
-    at_byte false one h = let tail : until_newline line ≡ line = cc in ap (with_byte b) (h tail)
+    at_byte false one h = let tail : until_newline line ≡ line = cc in ap (line_with_byte b) (h tail)
 
 pub ended_before : (line rest : List ℕ) → IsOneLine line → ended_lines (line ++ 10 ∷ rest) ≡ line ∷ ended_lines rest
 ended_before [] rest one = refl

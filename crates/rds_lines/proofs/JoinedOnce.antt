@@ -14,7 +14,7 @@ use Rattle.rds_dots.specs.Order.{dots_exact, after_before}
 use Rattle.rds_life.specs.Life.{Lived, IsFirstConflict}
 use Rattle.rds_state.specs.Value.{StateValue}
 use Rattle.rds_state.proofs.JoinLaws.{same_value}
-use Rattle.rds_lines.specs.Join.{ReadsLine, IsJoined, JoinedTo, TextOfJoined, AfterBoth, AfterSecond, AfterFirst, JoinsTo}
+use Rattle.rds_lines.specs.Join.{ReadsLine, JoinsReplicas, JoinedTo, TextOfJoined, AfterBoth, AfterSecond, AfterFirst, JoinsTo}
 use Rattle.rds_lines.specs.declared.join.TheConstants.{LINE_LIMIT}
 use Rattle.rds_lines.specs.JoinLaws.{SpellsLine, SpellsBoth, IsJoinedOnce, AnswersSpelled}
 use Rattle.rds_lines.specs.Lines.{until_newline, after_line}
@@ -27,7 +27,7 @@ use Rattle.rds_codec.specs.declared.limits.TheConstants.{LIMIT}
 
 -- what two snapshots may be joined to
 data Cases (v w : ReplicaValue) (a : Result ReplicaValue Fault) : Type 0 where
-  is_joined : (both : ReplicaValue) → a ≡ Ok both → IsJoined v w both → Cases v w a
+  is_joined : (both : ReplicaValue) → a ≡ Ok both → JoinsReplicas v w both → Cases v w a
   other_groups : a ≡ Err WrongGroup → v.roster.group ≢ w.roster.group → Cases v w a
   other_rosters : a ≡ Err WrongRoster → v.roster.group ≡ w.roster.group → ¬ (OneBegins v.roster w.roster) → Cases v w a
   first_conflict : (d : Dot) → a ≡ Err (Conflict d.replica d.seq) → OneBegins v.roster w.roster → IsFirstConflict v.state.lives w.state.lives d → Cases v w a
@@ -45,7 +45,7 @@ same_group r s meet = elim meet [ inl first ↦ first.0 | inr second ↦ sym sec
 snapshot_of : RosterValue → ℕ → StateValue → ReplicaValue
 snapshot_of roster own state = record { roster = roster; own = own; state = state }
 
-one_joined : (v w x y : ReplicaValue) → IsJoined v w x → IsJoined v w y → x ≡ y
+one_joined : (v w x y : ReplicaValue) → JoinsReplicas v w x → JoinsReplicas v w y → x ≡ y
 unfolding snapshot_of
 one_joined v w x y h k =
     ap (λ (r : RosterValue). snapshot_of r x.own x.state) (h.roster ∙ sym k.roster)
@@ -64,7 +64,7 @@ conflict_of d = Err (Conflict d.replica d.seq)
 done : ReplicaValue → Result ReplicaValue Fault
 done v = Ok v
 
-joined_else : (v w both : ReplicaValue) (a b : Result ReplicaValue Fault) → a ≡ Ok both → IsJoined v w both → Cases v w b → a ≡ b
+joined_else : (v w both : ReplicaValue) (a b : Result ReplicaValue Fault) → a ≡ Ok both → JoinsReplicas v w both → Cases v w b → a ≡ b
 unfolding done
 joined_else v w both a b e h k = elim k [
   | is_joined other f j ↦ e ∙ ap done (one_joined v w both other h j) ∙ sym f

@@ -10,7 +10,7 @@ use Rattle.std.specs.Prelude.{String}
 use Rattle.rds_names.specs.declared.fault.Fault.{Fault}
 use Rattle.rds_lines.specs.Lines.{IsOneLine, until_newline, after_line, is_text_line, ReadsText}
 use Rattle.rds_lines.specs.declared.ahead.TheConstants.{LINE_LIMIT}
-use Rattle.rds_lines.specs.Ahead.{IsHeld, LosesPiece, TakesLine}
+use Rattle.rds_lines.specs.Ahead.{IsLineHeld, LosesPiece, TakesLine}
 
 -- what stands before the rest
 before_rest : (xs : List ℕ) → (front : List ℕ) × (xs ≡ front ++ after_line xs)
@@ -135,7 +135,7 @@ rest_shorter (b ∷ xs) h = at_byte (eqb b 10)
 -- the bytes that were taken so far, which have no newline, and the line that they are
 pub record Walked (first now : List ℕ) (line : Result (Vec ℕ) Fault) (begun : Bool) : Type 0 where
   pub taken : List ℕ
-  pub held : IsHeld taken line
+  pub held : IsLineHeld taken line
   pub front : first ≡ taken ++ now
   pub one : IsOneLine taken
   pub fresh : begun ≡ false → first ≡ now
@@ -171,7 +171,7 @@ walks_kept (Some xs) (Some ys) (Some zs) line begun w k = subst (λ (l : List �
 
 -- at the end of the input
 pub walks_end : (a b : Option (List ℕ)) (line : Result (Vec ℕ) Fault) (text : Result (String Global) Fault) (bytes : List ℕ) → Walks a (prepend_known bytes b) line true → bytes ≡ [] → IsAtEnd b
-    → ((taken : List ℕ) → IsHeld taken line → ReadsText taken text) → TakesLine a (prepend_known bytes b) (Some text)
+    → ((taken : List ℕ) → IsLineHeld taken line → ReadsText taken text) → TakesLine a (prepend_known bytes b) (Some text)
 walks_end None b line text bytes w none e reads = tt
 walks_end (Some xs) None line text bytes w none e reads = absurd w
 walks_end (Some xs) (Some ys) line text bytes w none e reads =
@@ -201,8 +201,8 @@ some_before false xs ys bytes lt fresh some = omega (arith, ap length (fresh ref
 
 -- a piece that ends the line
 pub walks_out : (a b : Option (List ℕ)) (line longer : Result (Vec ℕ) Fault) (text : Result (String Global) Fault) (begun : Bool) (bytes : List ℕ) → Walks a (prepend_known bytes b) line begun
-    → 0 < length bytes → length (until_newline bytes) < length bytes → ((taken : List ℕ) → IsHeld taken line → IsHeld (taken ++ until_newline bytes) longer)
-    → ((taken : List ℕ) → IsHeld taken longer → ReadsText taken text) → TakesLine a (prepend_known (after_line bytes) b) (Some text)
+    → 0 < length bytes → length (until_newline bytes) < length bytes → ((taken : List ℕ) → IsLineHeld taken line → IsLineHeld (taken ++ until_newline bytes) longer)
+    → ((taken : List ℕ) → IsLineHeld taken longer → ReadsText taken text) → TakesLine a (prepend_known (after_line bytes) b) (Some text)
 walks_out None b line longer text begun bytes w lt ended extends reads = tt
 walks_out (Some xs) None line longer text begun bytes w lt ended extends reads = absurd w
 walks_out (Some xs) (Some ys) line longer text begun bytes w lt ended extends reads =
@@ -213,7 +213,7 @@ walks_out (Some xs) (Some ys) line longer text begun bytes w lt ended extends re
 
 -- a piece that doesn't
 pub walks_on : (a b : Option (List ℕ)) (line longer : Result (Vec ℕ) Fault) (begun : Bool) (bytes : List ℕ) → Walks a (prepend_known bytes b) line begun
-    → 0 < length bytes → length bytes ≤ length (until_newline bytes) → ((taken : List ℕ) → IsHeld taken line → IsHeld (taken ++ until_newline bytes) longer)
+    → 0 < length bytes → length bytes ≤ length (until_newline bytes) → ((taken : List ℕ) → IsLineHeld taken line → IsLineHeld (taken ++ until_newline bytes) longer)
     → Walks a (prepend_known (after_line bytes) b) longer true
 walks_on None b line longer begun bytes w lt going extends = tt
 walks_on (Some xs) None line longer begun bytes w lt going extends = absurd w

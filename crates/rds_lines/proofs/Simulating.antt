@@ -8,7 +8,7 @@ use Rattle.rds_names.specs.Roster.{RosterValue}
 use Rattle.rds_state.specs.Fits.{ReplicaValue}
 use Rattle.rds_json.specs.declared.line.Line.{Line}
 use Rattle.rds_json.specs.declared.line.Line.TheVariants as lines
-use Rattle.rds_world.specs.Events.{IsAccepted, IsDone, Refuses, roster_after}
+use Rattle.rds_world.specs.Events.{IsAccepted, IsDone, RefusesEvent, roster_after_event}
 use Rattle.rds_world.specs.Stands.{Stands, state_of}
 use Rattle.rds_world.specs.Stored.{WorldValue}
 use Rattle.rds_world.specs.World.{World, Question, Reply as ModelReply, after, after_answer, after_take, start}
@@ -22,8 +22,8 @@ use Rattle.rds_lines.specs.declared.views.Layout.TheVariants.{Compact}
 use Rattle.rds_lines.specs.Lines.{lines_in}
 use Rattle.rds_output.specs.Output.{fault_line}
 use Rattle.rds_lines.specs.Sim.{Group, IsSimOutput, MayBeSimulated, MeetsBytes, MeetsFirst, MeetsLines, MeetsRequest, done_reply, group_after, opening, request_of}
-use Rattle.rds_lines.specs.Streams.{NoneFailed, Stream, Tells}
-use Rattle.rds_lines.specs.Simulated.{IsGroup, LeadsTo, LineLeadsTo, StandsFor, reply_of}
+use Rattle.rds_lines.specs.Streams.{NoneFailed, Stream, Emits}
+use Rattle.rds_lines.specs.Simulated.{IsGroup, LeadsGroupTo, LineLeadsTo, StandsForGroup, reply_of}
 use Rattle.rds_output.specs.declared.reply.Reply.{Reply}
 use Rattle.rds_output.specs.declared.reply.Reply.TheVariants.{Done, Refused}
 use Rattle.rds_lines.specs.declared.sim.Request.{Request}
@@ -41,7 +41,7 @@ one_more : (names : List (List ℕ)) (name : List ℕ) (n : ℕ) → n ≡ lengt
 one_more names name n e = (let one = length-append names (name ∷ []) in omega (arith, e, one))
 
 -- the roster names as many replicas as there are
-stays_whole : (w : World) (roster : RosterValue) (e : Event) → w.replicas ≡ length roster.names → (after w e).replicas ≡ length (roster_after roster e).names
+stays_whole : (w : World) (roster : RosterValue) (e : Event) → w.replicas ≡ length roster.names → (after w e).replicas ≡ length (roster_after_event roster e).names
 stays_whole w roster (Edit r c) all = all
 stays_whole w roster (Save r) all = all
 stays_whole w roster (Crash r) all = all
@@ -51,9 +51,9 @@ stays_whole w roster (Take k) all = taken_replicas w (slice_get w.answers k) ∙
 stays_whole w roster (Grow r name) all = one_more roster.names name w.replicas all
 
 pub happened : (v new : WorldValue) (e : Event) (done : Outcome) (answer : Reply) → ((w : World) → Stands v w → IsAccepted v w e) → ((w : World) → Stands v w → Stands new (after w e))
-    → ((w : World) → Stands v w → IsDone v w e done) → new.roster ≡ roster_after v.roster e → answer ≡ done_reply new.roster done → (now : Group) → LeadsTo v now e (Ok answer) new
+    → ((w : World) → Stands v w → IsDone v w e done) → new.roster ≡ roster_after_event v.roster e → answer ≡ done_reply new.roster done → (now : Group) → LeadsGroupTo v now e (Ok answer) new
 happened v new e done answer accepted stands is_done same told now h =
-    let roster : new.roster ≡ roster_after now.roster e = same ∙ ap (λ (r : RosterValue). roster_after r e) h.roster in (
+    let roster : new.roster ≡ roster_after_event now.roster e = same ∙ ap (λ (r : RosterValue). roster_after_event r e) h.roster in (
       group_after now e,
       record { stands = stands now.world h.stands; roster = roster; whole = stays_whole now.world now.roster e h.whole },
       record {
@@ -70,22 +70,22 @@ happened v new e done answer accepted stands is_done same told now h =
       },
     )
 
-pub stopped : (v new : WorldValue) (e : Event) (fault : Fault) → ((w : World) → Stands v w → Refuses v w e fault) → new ≡ v → (now : Group) → LeadsTo v now e (Err fault) new
+pub stopped : (v new : WorldValue) (e : Event) (fault : Fault) → ((w : World) → Stands v w → RefusesEvent v w e fault) → new ≡ v → (now : Group) → LeadsGroupTo v now e (Err fault) new
 stopped v new e fault refused same now h = (
   now,
-  subst (λ (x : WorldValue). StandsFor x now) (sym same) h,
+  subst (λ (x : WorldValue). StandsForGroup x now) (sym same) h,
   record { value = v; stands = h.stands; roster = h.roster; met = inr (record { fault = fault; refused = refused now.world h.stands; told = (refl, refl) }) },
 )
 
 -- ---- a line of replicas that are there
 
-asked_here : (v : WorldValue) (line : Line) (due : Result Request Fault) → request_of v.roster line ≡ due → (now : Group) → StandsFor v now → due ≡ request_of now.roster line
+asked_here : (v : WorldValue) (line : Line) (due : Result Request Fault) → request_of v.roster line ≡ due → (now : Group) → StandsForGroup v now → due ≡ request_of now.roster line
 asked_here v line due is now h = sym is ∙ ap (λ (r : RosterValue). request_of r line) h.roster
 
 pub line_refused : (v : WorldValue) (line : Line) (fault : Fault) → request_of v.roster line ≡ Err fault → (now : Group) → LineLeadsTo (Some v) (Some now) line (Err fault) (Some v)
 line_refused v line fault is now h = (Some now, h, inr (subst (λ (r : Result Request Fault). MeetsRequest now r (Refused fault) (Some now)) (asked_here v line (Err fault) is now h) (refl, refl)))
 
-pub line_happens : (v new : WorldValue) (line : Line) (e : Event) (result : Result Reply Fault) → request_of v.roster line ≡ Ok (requests.Event e) → ((now : Group) → LeadsTo v now e result new)
+pub line_happens : (v new : WorldValue) (line : Line) (e : Event) (result : Result Reply Fault) → request_of v.roster line ≡ Ok (requests.Event e) → ((now : Group) → LeadsGroupTo v now e result new)
     → (now : Group) → LineLeadsTo (Some v) (Some now) line result (Some new)
 line_happens v new line e result is leads now h =
     let m = leads now h in
@@ -160,8 +160,8 @@ all_simulated reading writing world status none h = record {
     begun : IsGroup world None
     begun = subst (λ (w : Option WorldValue). IsGroup w None) (sym none) tt
 
-    sim_written : (o : Option (List ℕ)) → IfSome o (λ input. NoneFailed reading → Tells (WritesAnswers (λ out refused. (now : Option Group) → IsGroup world now → MeetsLines (lines_in input) now out refused)) writing status)
-        → IfSome o (λ input. NoneFailed reading → Tells (WritesAnswers (IsSimOutput input)) writing status)
+    sim_written : (o : Option (List ℕ)) → IfSome o (λ input. NoneFailed reading → Emits (WritesAnswers (λ out refused. (now : Option Group) → IsGroup world now → MeetsLines (lines_in input) now out refused)) writing status)
+        → IfSome o (λ input. NoneFailed reading → Emits (WritesAnswers (IsSimOutput input)) writing status)
     sim_written None h = tt
     sim_written (Some input) h = λ steady written.
         let p = h steady written in

@@ -15,9 +15,9 @@ use Rattle.rds_json.specs.declared.line.Line.TheVariants as lines
 use Rattle.rds_json.proofs.LinesUnderstood.{line_understood}
 use Rattle.rds_json.proofs.Outcomes.{passed}
 use Rattle.rds_world.specs.Coherent.{Memory as InMemory}
-use Rattle.rds_world.specs.Events.{roster_after}
+use Rattle.rds_world.specs.Events.{roster_after_event}
 use Rattle.rds_world.specs.Law.{held_after, world_after}
-use Rattle.rds_world.specs.Simulation.{roster_in}
+use Rattle.rds_world.specs.Simulation.{roster_with_names}
 use Rattle.rds_world.specs.Updates.{ShowsUpdates}
 use Rattle.rds_world.specs.World.{World, Happening, Of, Accepted, after, refusal_of, start}
 use Rattle.rds_world.specs.declared.event.Event.{Event}
@@ -31,7 +31,7 @@ use Rattle.rds_output.specs.declared.reply.Reply.{Reply}
 use Rattle.rds_output.specs.declared.reply.Reply.TheVariants.{Done}
 use Rattle.rds_lines.specs.Lines.{is_text_line}
 use Rattle.rds_lines.specs.Sim.{Group, MeetsBytes, MeetsEvent, MeetsLine, MeetsLines, MeetsRead, MeetsRequest, done_reply, group_after, line_of_bytes, opening, request_of}
-use Rattle.rds_lines.specs.SimLaws.{AnsweredLine, AsksFor, CameTo, IsRefusal, NamesGroup, Refused, Happened, Shown, ShowsHeld, ShowsTheirUpdates, SimShowsUpdates, events_of}
+use Rattle.rds_lines.specs.SimLaws.{AnsweredLine, AsksFor, CameTo, WasRefused, NamesGroup, Refused, Happened, Shown, ShowsHeld, ShowsTheirUpdates, SimShowsUpdates, events_of}
 use Rattle.rds_lines.specs.Views.{ShowsView}
 use Rattle.rds_lines.specs.declared.sim.Request.{Request}
 use Rattle.rds_lines.specs.declared.sim.Request.TheVariants as requests
@@ -116,7 +116,7 @@ few_named bytes roster is =
 -- the group is the one after these events, none of which the model refuses
 record IsAfter (roster : RosterValue) (es : List Happening) (g : Group) : Type 0 where
   world : g.world ≡ world_after roster.names es
-  same : g.roster ≡ roster_in roster (world_after roster.names es)
+  same : g.roster ≡ roster_with_names roster (world_after roster.names es)
   accepted : Accepted es (start roster.names)
 
 after_one : (roster : RosterValue) (es : List Happening) (g : Group) (e : Event) → IsAfter roster es g → refusal_of g.world e ≡ None → IsAfter roster (es ++ Of e ∷ []) (group_after g e)
@@ -126,7 +126,7 @@ after_one roster es g e at due =
     let here : refusal_of w e ≡ None = subst (λ (x : World). refusal_of x e ≡ None) at.world due in
     record {
       world = ap (λ (x : World). after x e) at.world ∙ sym on;
-      same = ap (λ (r : RosterValue). roster_after r e) at.same ∙ sym (roster_goes_on roster w e) ∙ ap (roster_in roster) (sym on);
+      same = ap (λ (r : RosterValue). roster_after_event r e) at.same ∙ sym (roster_goes_on roster w e) ∙ ap (roster_with_names roster) (sym on);
       accepted = (accepted_on es (Of e ∷ []) (start roster.names)).1 (at.accepted, (here, tt));
     }
 
@@ -249,13 +249,13 @@ module _ (roster : RosterValue) (few : length roster.names ≤ 256) where
 -- ---- lines from the first on
 
 -- one more line is refused, before there is a group
-named_behind : (a : AnsweredLine) (answered : List AnsweredLine) → IsRefusal a → NamesGroup answered → NamesGroup (a ∷ answered)
+named_behind : (a : AnsweredLine) (answered : List AnsweredLine) → WasRefused a → NamesGroup answered → NamesGroup (a ∷ answered)
 named_behind a answered refused n = record {
   before = a ∷ n.before;
   first = n.first;
   behind = n.behind;
   whole = ap (λ (l : List AnsweredLine). a ∷ l) n.whole;
-  refused = All-cons IsRefusal a n.before refused n.refused;
+  refused = All-cons WasRefused a n.before refused n.refused;
   roster = n.roster;
   named = n.named;
   done = n.done;
@@ -272,7 +272,7 @@ refused_first bytes answer lines rest out more refused is out_is refused_is s =
       of_lines = ap (λ (l : List (List ℕ)). bytes ∷ l) s.of_lines;
       is_written = out_is ∙ ap (λ (b : List ℕ). reply_line answer ++ b) s.is_written;
       is_refused = refused_is ∙ ap (λ (b : Bool). is_refusal answer || b) s.is_refused;
-      came = elim s.came [ inl all ↦ inl (All-cons IsRefusal a s.answered (is, refl) all) | inr named ↦ inr (named_behind a s.answered (is, refl) named) ];
+      came = elim s.came [ inl all ↦ inl (All-cons WasRefused a s.answered (is, refl) all) | inr named ↦ inr (named_behind a s.answered (is, refl) named) ];
     }
 
 roster_first : (bytes : List ℕ) (answer : Reply) (roster : RosterValue) → line_of_bytes bytes ≡ Ok (lines.Roster roster) → answer ≡ Done → (lines : List (List ℕ)) (rest out : List ℕ) (more refused : Bool)
@@ -290,7 +290,7 @@ roster_first bytes answer roster named done lines rest out more refused m out_is
         first = first;
         behind = later.answered;
         whole = refl;
-        refused = All-nil IsRefusal;
+        refused = All-nil WasRefused;
         roster = roster;
         named = named;
         done = (done, refl);
@@ -309,6 +309,6 @@ first_line bytes answer next b lines rest more later on out refused out_is refus
 ]
 
 pub updates_shown : SimShowsUpdates
-updates_shown [] out refused m = record { answered = []; of_lines = refl; is_written = m.0; is_refused = m.1; came = inl (All-nil IsRefusal) }
+updates_shown [] out refused m = record { answered = []; of_lines = refl; is_written = m.0; is_refused = m.1; came = inl (All-nil WasRefused) }
 updates_shown (bytes ∷ lines) out refused m =
     first_line bytes m.answer m.next (begun bytes m.answer m.next m.met) lines m.rest m.more m.later (updates_shown lines m.rest m.more) out refused m.out_is m.refused_is

@@ -20,11 +20,11 @@ abbrev pub bytes_untaken : List ℕ → Option (List ℕ) → Option (List ℕ)
 bytes_untaken bytes held = prepend_known bytes held
 
 -- the bytes of a line so far, or why they aren't held
-abbrev pub IsHeld : List ℕ → Result (Vec ℕ) Fault → Type 0
-IsHeld taken (Ok v) = (v.items ≡ taken) × (length taken ≤ LINE_LIMIT)
-IsHeld taken (Err BadLine) = LINE_LIMIT < length taken
-IsHeld taken (Err Memory) = Unit {0}
-IsHeld taken (Err e) = ⊥
+abbrev pub IsLineHeld : List ℕ → Result (Vec ℕ) Fault → Type 0
+IsLineHeld taken (Ok v) = (v.items ≡ taken) × (length taken ≤ LINE_LIMIT)
+IsLineHeld taken (Err BadLine) = LINE_LIMIT < length taken
+IsLineHeld taken (Err Memory) = Unit {0}
+IsLineHeld taken (Err e) = ⊥
 
 -- the line that the bytes begin with, where there are any
 abbrev pub IsFirstLine : List ℕ → Option (Result (String Global) Fault) → Type 0

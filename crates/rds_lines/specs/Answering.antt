@@ -6,7 +6,7 @@ use Rattle.rds_keep.specs.Parts.{AppendsFront, ConsumesAtMost}
 use Rattle.rds_output.specs.Output.{fault_line}
 use Rattle.rds_lines.specs.Ahead.{most_given}
 use Rattle.rds_lines.specs.Lines.{ended_lines, lines_in}
-use Rattle.rds_lines.specs.Streams.{NoneFailed, Stream, Tells}
+use Rattle.rds_lines.specs.Streams.{NoneFailed, Stream, Emits}
 
 -- such answers were written, and nothing else; the status is 1 where a line was refused
 abbrev pub WritesAnswers : (List ℕ → Bool → Type 0) → Option (List ℕ) → Option (List ℕ) → ℕ → Type 0
@@ -49,7 +49,7 @@ pub record WritesFront (may : List (List ℕ) → List ℕ → Bool → Type 0) 
 pub record AnswersLines (may : List (List ℕ) → List ℕ → Bool → Type 0) (reading writing : Stream) (status : ℕ)
     : Type 0 where
   pub answered : IfSome reading.before
-      (λ input. NoneFailed reading → Tells (WritesAnswers (may (lines_in input))) writing status)
+      (λ input. NoneFailed reading → Emits (WritesAnswers (may (lines_in input))) writing status)
   pub unread : reading.CountRose → NoneFailed writing
       → WritesCut may (fault_line Device) reading.before reading.after writing.before writing.after × (status ≡ 1)
   pub part : writing.CountRose

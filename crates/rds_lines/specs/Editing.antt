@@ -39,7 +39,7 @@ use Rattle.rds_output.specs.declared.reply.Reply.TheVariants.{RefusedLine}
 
 -- a replica's state was joined with the command's effect, and the answer tells the new dot and how many live dots it
 -- killed
-pub record IsEdited (command : Command) (before after : ReplicaValue) (answer : Reply) : Type 0 where
+pub record AnswersEdited (command : Command) (before after : ReplicaValue) (answer : Reply) : Type 0 where
   pub roster : after.roster ≡ before.roster
   pub own : after.own ≡ before.own
   pub joined : JoinsEffect (coordinates before.state) before.own command (coordinates after.state)
@@ -74,7 +74,7 @@ IsLineRefused line fault before answer after = (answer ≡ RefusedLine line faul
 -- an edit is made that nothing refuses, or it is refused by what is due
 abbrev pub MeetsCommand : ℕ → Result Command Fault → ReplicaValue → Reply → ReplicaValue → Type 0
 MeetsCommand line (Ok command) before answer after =
-    ((edit_refusal before command ≡ None) × IsEdited command before after answer)
+    ((edit_refusal before command ≡ None) × AnswersEdited command before after answer)
     ⊎ ((fault : Fault) × IsDue (edit_refusal before command) fault × IsLineRefused line fault before answer after)
 MeetsCommand line (Err fault) before answer after = IsLineRefused line fault before answer after
 
@@ -94,12 +94,12 @@ AddsAnswer line bytes before after old new =
     (answer : Reply) × MeetsEdit line bytes before answer after × (new ≡ old ++ answer ∷ [])
 
 -- an empty line has none, and changes nothing
-abbrev pub AnswersAs : Bool → ℕ → List ℕ → ReplicaValue → ReplicaValue → List Reply → List Reply → Type 0
-AnswersAs true line bytes before after old new = (after ≡ before) × (new ≡ old)
-AnswersAs false line bytes before after old new = AddsAnswer line bytes before after old new
+abbrev pub AnswersLineAs : Bool → ℕ → List ℕ → ReplicaValue → ReplicaValue → List Reply → List Reply → Type 0
+AnswersLineAs true line bytes before after old new = (after ≡ before) × (new ≡ old)
+AnswersLineAs false line bytes before after old new = AddsAnswer line bytes before after old new
 
 abbrev pub AnswersNext : ℕ → List ℕ → ReplicaValue → ReplicaValue → List Reply → List Reply → Type 0
-AnswersNext line bytes before after old new = AnswersAs (is_empty_line bytes) line bytes before after old new
+AnswersNext line bytes before after old new = AnswersLineAs (is_empty_line bytes) line bytes before after old new
 
 -- the first line's answer, and what the lines after it are answered and make of what it left
 pub record EditsFirst (line : ℕ) (bytes : List ℕ) (Later : ReplicaValue → ReplicaValue → List Reply → Type 0)

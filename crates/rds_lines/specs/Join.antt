@@ -36,7 +36,7 @@ abbrev pub ReadsLine : List ℕ → Result ReplicaValue Fault → Type 0
 ReadsLine line r = (r ≢ Err Memory) × LineRead line r
 
 -- the join of the states, with the longer roster and the first one's number
-pub record IsJoined (first second both : ReplicaValue) : Type 0 where
+pub record JoinsReplicas (first second both : ReplicaValue) : Type 0 where
   pub meet : OneBegins first.roster second.roster
   pub compatible : AreCompatible (coordinates first.state) (coordinates second.state)
   pub roster : both.roster ≡ longer first.roster second.roster
@@ -45,7 +45,7 @@ pub record IsJoined (first second both : ReplicaValue) : Type 0 where
 
 -- what two snapshots are joined to, or why they can't be
 abbrev pub JoinedTo : ReplicaValue → ReplicaValue → Result ReplicaValue Fault → Type 0
-JoinedTo v w (Ok both) = IsJoined v w both
+JoinedTo v w (Ok both) = JoinsReplicas v w both
 JoinedTo v w (Err WrongGroup) = v.roster.group ≢ w.roster.group
 JoinedTo v w (Err WrongRoster) = (v.roster.group ≡ w.roster.group) × ¬ (OneBegins v.roster w.roster)
 JoinedTo v w (Err (Conflict replica seq)) =

@@ -39,22 +39,22 @@ whose_text roster own =
     codes "{\"group\":" ++ compact_text (string roster.group) ++ codes ",\"own\":"
     ++ compact_text (string (own_name roster own)) ++ codes ",\"names\":" ++ compact_text (texts_data roster.names)
 
-abbrev pub much_text : Amounts → List ℕ
-much_text a =
+abbrev pub amounts_text : Amounts → List ℕ
+amounts_text a =
     codes ",\"live\":" ++ (decimal a.live ++ (codes ",\"dead\":" ++ (decimal a.dead
     ++ (codes ",\"counters\":" ++ (decimal a.counters ++ (codes ",\"components\":" ++ (decimal a.components
     ++ (codes ",\"bytes\":" ++ decimal a.bytes))))))))
 
 -- how many bytes the snapshot of a file has, and how many the records behind it
-abbrev pub file_text : ℕ → ℕ → List ℕ
-file_text snapshot records =
+abbrev pub file_sizes_text : ℕ → ℕ → List ℕ
+file_sizes_text snapshot records =
     codes ",\"snapshot\":" ++ (decimal snapshot ++ (codes ",\"records\":" ++ decimal records))
 
 -- with what is told of a file, if anything
 abbrev pub overview_text : RosterValue → ℕ → Amounts → List ℕ → Mark → List ℕ
 overview_text roster own amounts of_file mark =
     whose_text roster own
-    ++ (much_text amounts ++ (of_file ++ (codes ",\"mark\":\"" ++ (mark_text mark ++ codes "\"}"))))
+    ++ (amounts_text amounts ++ (of_file ++ (codes ",\"mark\":\"" ++ (mark_text mark ++ codes "\"}"))))
 
 -- the text says that of a replica, and this of its file
 pub record IsOverviewWith (of_file : List ℕ) (r : ReplicaValue) (text : List ℕ) : Type 0 where
@@ -68,5 +68,5 @@ IsOverview r text = IsOverviewWith [] r text
 
 -- the answer tells it of a replica in a file with a snapshot and records of so many bytes
 pub record TellsOverview (r : ReplicaValue) (snapshot records : ℕ) (answer : Reply) : Type 0 where
-  pub overview : IsOverviewWith (file_text snapshot records) r (reply_text answer)
+  pub overview : IsOverviewWith (file_sizes_text snapshot records) r (reply_text answer)
   pub done : is_refusal answer ≡ false

@@ -8,7 +8,7 @@ use Rattle.rds_keep.specs.Parts.{AppendsFront, ConsumesAtMost}
 use Rattle.rds_lines.specs.Join.{JoinsTo, MayJoinTo}
 use Rattle.rds_output.specs.Output.{Writes, fault_line, output_of}
 use Rattle.rds_lines.specs.Refusal.{fault_of}
-use Rattle.rds_lines.specs.Streams.{NoneFailed, Stream, Tells}
+use Rattle.rds_lines.specs.Streams.{NoneFailed, Stream, Emits}
 use Rattle.rds_lines.specs.declared.refusal.Refusal.{Refusal}
 use Rattle.rds_lines.specs.declared.run.TheConstants.{MOST}
 
@@ -25,10 +25,10 @@ WritesJoinFront input before after =
 -- what becomes of a run of `join`: what its input is joined to was written, or a beginning of it where the writer
 -- failed; where the reader failed, that is `Device`; and so many bytes of the input are read at most
 pub record RunsJoin (reading writing : Stream) (status : ℕ) : Type 0 where
-  pub join : IfSome reading.before (λ input. NoneFailed reading → Tells (WritesJoin input) writing status)
+  pub join : IfSome reading.before (λ input. NoneFailed reading → Emits (WritesJoin input) writing status)
   pub part : IfSome reading.before
       (λ input. NoneFailed reading → WritesJoinFront input writing.before writing.after)
-  pub unread : reading.CountRose → Tells (Writes (Err Device)) writing status
+  pub unread : reading.CountRose → Emits (Writes (Err Device)) writing status
   pub unread_part : reading.CountRose → AppendsFront writing.before writing.after (fault_line Device)
   pub most : ConsumesAtMost reading.before reading.after MOST
 

@@ -29,7 +29,7 @@ use Rattle.rds_lines.specs.declared.sim.Request.{Request}
 use Rattle.rds_lines.specs.declared.sim.Request.TheVariants as requests
 use Rattle.rds_json.specs.declared.line.Line.{Line}
 use Rattle.rds_json.specs.declared.line.Line.TheVariants as lines
-use Rattle.rds_world.specs.Events.{IsAccepted, IsDone, Refuses, roster_after}
+use Rattle.rds_world.specs.Events.{IsAccepted, IsDone, RefusesEvent, roster_after_event}
 use Rattle.rds_world.specs.Stands.{Stands}
 use Rattle.rds_world.specs.Stored.{WorldValue}
 use Rattle.rds_world.specs.World.{World, after, start}
@@ -53,8 +53,8 @@ abbrev pub opening : RosterValue → Group
 opening roster = record { roster = roster; world = start roster.names }
 
 -- a line is refused, and changes nothing
-abbrev pub IsRefused : Option Group → Fault → Reply → Option Group → Type 0
-IsRefused now fault answer next = (answer ≡ Refused fault) × (next ≡ now)
+abbrev pub LineIsRefused : Option Group → Fault → Reply → Option Group → Type 0
+LineIsRefused now fault answer next = (answer ≡ Refused fault) × (next ≡ now)
 
 abbrev pub done_reply : RosterValue → Outcome → Reply
 done_reply roster (outcomes.Edited e) = edit_reply roster e.dot e.killed
@@ -64,10 +64,10 @@ done_reply roster (outcomes.Answered k components) = Answered k components
 
 -- the group after an event that isn't refused
 abbrev pub group_after : Group → Event → Group
-group_after g e = record { roster = roster_after g.roster e; world = after g.world e }
+group_after g e = record { roster = roster_after_event g.roster e; world = after g.world e }
 
 -- the event happens, and what it did is answered
-pub record Happens (v : WorldValue) (g : Group) (e : Event) (answer : Reply) (next : Option Group) : Type 0 where
+pub record EventHappens (v : WorldValue) (g : Group) (e : Event) (answer : Reply) (next : Option Group) : Type 0 where
   pub accepted : IsAccepted v g.world e
   pub outcome : Outcome
   pub done : IsDone v g.world e outcome
@@ -75,20 +75,20 @@ pub record Happens (v : WorldValue) (g : Group) (e : Event) (answer : Reply) (ne
   pub next_is : next ≡ Some (group_after g e)
 
 -- it is refused as the replicas refuse it
-pub record Stops (v : WorldValue) (g : Group) (e : Event) (answer : Reply) (next : Option Group) : Type 0 where
+pub record StopsAtEvent (v : WorldValue) (g : Group) (e : Event) (answer : Reply) (next : Option Group) : Type 0 where
   pub fault : Fault
-  pub refused : Refuses v g.world e fault
-  pub told : IsRefused (Some g) fault answer next
+  pub refused : RefusesEvent v g.world e fault
+  pub told : LineIsRefused (Some g) fault answer next
 
 -- what an event is answered by replicas that stand for the group
 pub record MeetsEvent (g : Group) (e : Event) (answer : Reply) (next : Option Group) : Type 0 where
   pub value : WorldValue
   pub stands : Stands value g.world
   pub roster : value.roster ≡ g.roster
-  pub met : Happens value g e answer next ⊎ Stops value g e answer next
+  pub met : EventHappens value g e answer next ⊎ StopsAtEvent value g e answer next
 
 -- the view of what a replica has in memory
-pub record IsShown (g : Group) (number : ℕ) (path : List (List ℕ)) (answer : Reply) (next : Option Group) : Type 0 where
+pub record Viewed (g : Group) (number : ℕ) (path : List (List ℕ)) (answer : Reply) (next : Option Group) : Type 0 where
   pub state : StateValue
   pub memory : coordinates state ≡ g.world.memory number
   pub shown : ShowsView Compact state path answer
@@ -96,7 +96,7 @@ pub record IsShown (g : Group) (number : ℕ) (path : List (List ℕ)) (answer :
 
 abbrev pub MeetsShow : Group → ℕ → List (List ℕ) → Reply → Option Group → Type 0
 MeetsShow g number path answer next =
-    ((g.world.replicas ≤ number) × IsRefused (Some g) NoSuch answer next) ⊎ IsShown g number path answer next
+    ((g.world.replicas ≤ number) × LineIsRefused (Some g) NoSuch answer next) ⊎ Viewed g number path answer next
 
 abbrev pub event_of : RosterValue → List ℕ → (ℕ → Event) → Result Request Fault
 event_of roster name event = number_named roster name >>= λ number. Ok (requests.Event (event number))
@@ -116,17 +116,17 @@ request_of roster (lines.Show name path) = number_named roster name >>= λ numbe
 abbrev pub MeetsRequest : Group → Result Request Fault → Reply → Option Group → Type 0
 MeetsRequest g (Ok (requests.Event event)) answer next = MeetsEvent g event answer next
 MeetsRequest g (Ok (requests.Show number path)) answer next = MeetsShow g number path answer next
-MeetsRequest g (Err fault) answer next = IsRefused (Some g) fault answer next
+MeetsRequest g (Err fault) answer next = LineIsRefused (Some g) fault answer next
 
 -- before a roster there is no replica
 abbrev pub MeetsLine : Option Group → Line → Reply → Option Group → Type 0
 MeetsLine None (lines.Roster roster) answer next = (answer ≡ Done) × (next ≡ Some (opening roster))
-MeetsLine None line answer next = IsRefused None NoSuch answer next
+MeetsLine None line answer next = LineIsRefused None NoSuch answer next
 MeetsLine (Some g) line answer next = MeetsRequest g (request_of g.roster line) answer next
 
 abbrev pub MeetsRead : Option Group → Result Line Fault → Reply → Option Group → Type 0
 MeetsRead now (Ok line) answer next = MeetsLine now line answer next
-MeetsRead now (Err fault) answer next = IsRefused now fault answer next
+MeetsRead now (Err fault) answer next = LineIsRefused now fault answer next
 
 -- what the bytes of a line ask for, or their fault
 abbrev pub line_of_bytes : List ℕ → Result Line Fault
@@ -134,7 +134,7 @@ line_of_bytes bytes = if is_text_line bytes then line_of bytes else Err BadLine
 
 -- the answer that is due, or want of memory, which changes nothing
 abbrev pub MeetsBytes : Option Group → List ℕ → Reply → Option Group → Type 0
-MeetsBytes now bytes answer next = IsRefused now Memory answer next ⊎ MeetsRead now (line_of_bytes bytes) answer next
+MeetsBytes now bytes answer next = LineIsRefused now Memory answer next ⊎ MeetsRead now (line_of_bytes bytes) answer next
 
 -- one line's answer, and what is written for the lines after it
 pub record MeetsFirst (now : Option Group) (bytes : List ℕ) (After : Option Group → List ℕ → Bool → Type 0)
@@ -150,7 +150,7 @@ pub record MeetsFirst (now : Option Group) (bytes : List ℕ) (After : Option Gr
 
 -- what a read line is answered, or want of memory, which changes nothing
 abbrev pub MayMeet : Option Group → Line → Reply → Option Group → Type 0
-MayMeet now line answer next = IsRefused now Memory answer next ⊎ MeetsLine now line answer next
+MayMeet now line answer next = LineIsRefused now Memory answer next ⊎ MeetsLine now line answer next
 
 -- what is written for lines, from a group on, and whether one of them is refused
 abbrev pub MeetsLines : List (List ℕ) → Option Group → List ℕ → Bool → Type 0

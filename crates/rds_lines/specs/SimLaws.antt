@@ -6,7 +6,7 @@ use Rattle.rds_names.specs.Roster.{RosterValue}
 use Rattle.rds_state.specs.Value.{StateValue, coordinates}
 use Rattle.rds_json.specs.declared.line.Line.TheVariants as lines
 use Rattle.rds_world.specs.Law.{held_after, world_after}
-use Rattle.rds_world.specs.Simulation.{roster_in}
+use Rattle.rds_world.specs.Simulation.{roster_with_names}
 use Rattle.rds_world.specs.Updates.{ShowsUpdates}
 use Rattle.rds_world.specs.World.{Happening, Of, Accepted, start}
 use Rattle.rds_world.specs.declared.event.Event.{Event}
@@ -30,13 +30,13 @@ abbrev pub events_of : List AnsweredLine → List Happening
 events_of answered = filter_map (λ a. option_map Of a.event) answered
 
 -- it was refused, and nothing happened by it
-abbrev pub IsRefusal : AnsweredLine → Type 0
-IsRefusal a = (is_refusal a.answer ≡ true) × (a.event ≡ None)
+abbrev pub WasRefused : AnsweredLine → Type 0
+WasRefused a = (is_refusal a.answer ≡ true) × (a.event ≡ None)
 
 -- what the bytes of a line ask of the replicas that there are after these events, if the group began with this roster
 abbrev pub AsksFor : RosterValue → List Happening → List ℕ → Request → Type 0
 AsksFor roster es bytes request =
-    (line_of_bytes bytes >>= request_of (roster_in roster (world_after roster.names es))) ≡ Ok request
+    (line_of_bytes bytes >>= request_of (roster_with_names roster (world_after roster.names es))) ≡ Ok request
 
 -- the view at a path of the document of those updates that a replica's memory holds after these events
 pub record ShowsHeld (es : List Happening) (number : ℕ) (path : List (List ℕ)) (answer : Reply) : Type 0 where
@@ -48,7 +48,7 @@ pub record ShowsHeld (es : List Happening) (number : ℕ) (path : List (List ℕ
 -- What a line came to after other lines of its group: it was refused, or the event that it asks for happened, or the
 -- replica that it asks for was shown.
 pub data CameTo (roster : RosterValue) (before : List AnsweredLine) (a : AnsweredLine) : Type 0 where
-  Refused : IsRefusal a → CameTo roster before a
+  Refused : WasRefused a → CameTo roster before a
   Happened : (e : Event) → AsksFor roster (events_of before) a.line (requests.Event e) → a.event ≡ Some e
       → is_refusal a.answer ≡ false → CameTo roster before a
   Shown : (number : ℕ) (path : List (List ℕ)) → AsksFor roster (events_of before) a.line (requests.Show number path)
@@ -61,7 +61,7 @@ pub record NamesGroup (answered : List AnsweredLine) : Type 0 where
   pub first : AnsweredLine
   pub behind : List AnsweredLine
   pub whole : answered ≡ before ++ first ∷ behind
-  pub refused : All IsRefusal before
+  pub refused : All WasRefused before
   pub roster : RosterValue
   pub named : line_of_bytes first.line ≡ Ok (lines.Roster roster)
   pub done : (first.answer ≡ Done) × (first.event ≡ None)
@@ -75,7 +75,7 @@ pub record ShowsTheirUpdates (lines : List (List ℕ)) (out : List ℕ) (refused
   pub of_lines : lines ≡ map (λ a. a.line) answered
   pub is_written : out ≡ flat_map (λ a. reply_line a.answer) answered
   pub is_refused : refused ≡ list_any (λ a. is_refusal a.answer) answered
-  pub came : All IsRefusal answered ⊎ NamesGroup answered
+  pub came : All WasRefused answered ⊎ NamesGroup answered
 
 abbrev pub SimShowsUpdates : Type 0
 SimShowsUpdates = (lines : List (List ℕ)) (out : List ℕ) (refused : Bool) → MayBeSimulated lines out refused

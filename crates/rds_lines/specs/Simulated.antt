@@ -10,7 +10,7 @@ use Rattle.rds_output.specs.declared.reply.Reply.{Reply}
 use Rattle.rds_output.specs.declared.reply.Reply.TheVariants.{Refused}
 
 -- the group's roster, and a world of the model that they stand for, with all its replicas
-pub record StandsFor (v : WorldValue) (g : Group) : Type 0 where
+pub record StandsForGroup (v : WorldValue) (g : Group) : Type 0 where
   pub stands : Stands v g.world
   pub roster : v.roster ≡ g.roster
   pub whole : g.world.replicas ≡ length g.roster.names
@@ -19,7 +19,7 @@ abbrev pub IsGroup : Option WorldValue → Option Group → Type 0
 IsGroup None None = Unit {0}
 IsGroup None (Some g) = ⊥
 IsGroup (Some v) None = ⊥
-IsGroup (Some v) (Some g) = StandsFor v g
+IsGroup (Some v) (Some g) = StandsForGroup v g
 
 -- a fault is answered as a refusal
 abbrev pub reply_of : Result Reply Fault → Reply
@@ -27,9 +27,9 @@ reply_of (Ok answer) = answer
 reply_of (Err fault) = Refused fault
 
 -- the replicas stand for a group that the event leads to
-abbrev pub LeadsTo : WorldValue → Group → Event → Result Reply Fault → WorldValue → Type 0
-LeadsTo old g event result new =
-    StandsFor old g → (next : Group) × StandsFor new next × MeetsEvent g event (reply_of result) (Some next)
+abbrev pub LeadsGroupTo : WorldValue → Group → Event → Result Reply Fault → WorldValue → Type 0
+LeadsGroupTo old g event result new =
+    StandsForGroup old g → (next : Group) × StandsForGroup new next × MeetsEvent g event (reply_of result) (Some next)
 
 -- the same of a line
 abbrev pub LineLeadsTo : Option WorldValue → Option Group → Line → Result Reply Fault → Option WorldValue → Type 0

@@ -25,5 +25,5 @@ abbrev pub NoneFailed : Stream → Type 0
 NoneFailed stream = stream.MayHaveFailed → ⊥
 
 -- where no call of the writer failed, this was written, and the status goes with it
-abbrev pub Tells : (Option (List ℕ) → Option (List ℕ) → ℕ → Type 0) → Stream → ℕ → Type 0
-Tells writes writing status = NoneFailed writing → writes writing.before writing.after status
+abbrev pub Emits : (Option (List ℕ) → Option (List ℕ) → ℕ → Type 0) → Stream → ℕ → Type 0
+Emits writes writing status = NoneFailed writing → writes writing.before writing.after status

@@ -22,7 +22,7 @@ ghost use Rattle.rds_names.specs.declared.fault.Fault.TheVariants.{Device};
 ghost use Rattle.rds_keep.specs.Counted.{HasFailed};
 ghost use Rattle.rds_keep.specs.Parts.{ConsumesAtMost};
 ghost use Rattle.rds_lines.specs.Ahead.{
-  IsHeld,
+  IsLineHeld,
   IsOfSomeLine,
   LosesPiece,
   TakesLine,
@@ -150,8 +150,8 @@ impl Ahead {
     // Takes the bytes before the first newline to a line, and the newline. Whether the line has
     // ended is answered too.
     fn take_piece(&mut self, line: Result<Vec<u8>, Fault>) -> (Result<Vec<u8>, Fault>, bool)
-        ensures line { (taken : List ℕ) → IsHeld taken line
-            → IsHeld (taken ++ until_newline self.old) result.0 }
+        ensures line { (taken : List ℕ) → IsLineHeld taken line
+            → IsLineHeld (taken ++ until_newline self.old) result.0 }
         ensures ended { MatchBool result.1 (length (until_newline self.old) < length self.old)
             (length self.old ≤ length (until_newline self.old)) }
         ensures rest { self.new ≡ after_line self.old }
@@ -166,7 +166,7 @@ impl Ahead {
 
 // A line with a piece at its end.
 fn extended(line: Result<Vec<u8>, Fault>, piece: &[u8]) -> Result<Vec<u8>, Fault>
-    ensures { (taken : List ℕ) → IsHeld taken line → IsHeld (taken ++ piece.now) result }
+    ensures { (taken : List ℕ) → IsLineHeld taken line → IsLineHeld (taken ++ piece.now) result }
 {
     let mut bytes = line?;
     if LINE_LIMIT < bytes.len() + piece.len() {
@@ -178,7 +178,7 @@ fn extended(line: Result<Vec<u8>, Fault>, piece: &[u8]) -> Result<Vec<u8>, Fault
 
 // The text of a line that was taken whole.
 fn text_of(line: Result<Vec<u8>, Fault>) -> Result<String, Fault>
-    ensures { (taken : List ℕ) → IsHeld taken line → ReadsText taken result }
+    ensures { (taken : List ℕ) → IsLineHeld taken line → ReadsText taken result }
 {
     match String::from_utf8(line?) {
         Ok(text) => Ok(text),

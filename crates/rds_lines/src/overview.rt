@@ -13,8 +13,8 @@ ghost use Rattle.rds_lines.specs.Overview.{
   IsOverviewWith,
   TellsOverview,
   dead_count,
-  file_text,
-  much_text,
+  file_sizes_text,
+  amounts_text,
   overview_text,
   own_name,
 };
@@ -160,7 +160,7 @@ fn overview_line<S: DotSet>(
 
 // How much there is, in the line.
 fn much_text(alloc: Global, amounts: Amounts) -> Result<String, Fault>
-    ensures text { IfOk result (λ text. string_bytes text ≡ much_text amounts) }
+    ensures text { IfOk result (λ text. string_bytes text ≡ amounts_text amounts) }
     ensures memory { IfErr result (λ fault. fault ≡ Memory) }
 {
     let Amounts {
@@ -177,7 +177,7 @@ fn much_text(alloc: Global, amounts: Amounts) -> Result<String, Fault>
 
 // How many bytes there are in the file, in the line.
 fn file_text(alloc: Global, snapshot: u64, records: u64) -> Result<String, Fault>
-    ensures text { IfOk result (λ text. string_bytes text ≡ file_text snapshot records) }
+    ensures text { IfOk result (λ text. string_bytes text ≡ file_sizes_text snapshot records) }
     ensures memory { IfErr result (λ fault. fault ≡ Memory) }
 {
     Ok(format!(in alloc; ",\"snapshot\":{snapshot},\"records\":{records}")?)

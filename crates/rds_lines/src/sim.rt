@@ -5,7 +5,7 @@ ghost use Rattle.rds_lines.specs.Views.{ShowsView};
 ghost use Rattle.rds_lines.specs.Lines.{ReadsText};
 ghost use Rattle.rds_names.specs.Roster.{number_named};
 ghost use Rattle.rds_lines.specs.Sim.{Group, MeetsBytes, done_reply, request_of};
-ghost use Rattle.rds_lines.specs.Simulated.{IsGroup, LeadsTo, LineLeadsTo, reply_of};
+ghost use Rattle.rds_lines.specs.Simulated.{IsGroup, LeadsGroupTo, LineLeadsTo, reply_of};
 ghost use Rattle.rds_state.specs.Fits.{ReplicaValue};
 
 use crate::answering::Answers;
@@ -138,7 +138,7 @@ fn number_of(roster: &Roster, name: Name) -> Result<u8, Fault>
 
 // Lets an event happen, and answers what it did.
 fn happen<S: DotSet>(alloc: Global, world: &mut World<S>, event: &Event) -> Result<Reply, Fault>
-    ensures { (now : Group) → LeadsTo world.old now event.now result world.new }
+    ensures { (now : Group) → LeadsGroupTo world.old now event.now result world.new }
 {
     let done = world.step(alloc, event)?;
     Ok(done_reply(world.roster(), &done))

@@ -9,14 +9,14 @@ use Rattle.rds_state.specs.declared.command.Command.{Command}
 use Rattle.rds_state.specs.declared.command.Command.TheVariants.{Dec, Inc}
 use Rattle.rds_tree.specs.Shown.{Shown}
 use Rattle.rds_tree.specs.Shows.{counters_in}
-use Rattle.rds_listing.specs.Dump.{amounts, count_line, counter_edits, counts_text, dump_edits, edit_line, edits_text, most, standing_edits, sum_edits}
+use Rattle.rds_listing.specs.Dump.{amounts, count_line, counter_edits, counts_as_lines, dump_edits, line_of_edit, edits_text, most, standing_edits, sum_edits}
 use Rattle.rds_listing.specs.Standings.{StandingValue, standings}
 
 pub edits_append : (xs ys : List Command) → edits_text (xs ++ ys) ≡ edits_text xs ++ edits_text ys
 edits_append [] ys = refl
 edits_append (x ∷ xs) ys =
-    ap (λ (t : List ℕ). (edit_line x ++ 10 ∷ []) ++ t) (edits_append xs ys)
-    ∙ sym (append_assoc (edit_line x ++ 10 ∷ []) (edits_text xs) (edits_text ys))
+    ap (λ (t : List ℕ). (line_of_edit x ++ 10 ∷ []) ++ t) (edits_append xs ys)
+    ∙ sym (append_assoc (line_of_edit x ++ 10 ∷ []) (edits_text xs) (edits_text ys))
 
 -- the lines of one more
 pub edits_at : {X : Type 0} (edits : X → List Command) (all : List X) (i : ℕ) (x : X) (now next first : List ℕ) → i < length all → x ≡ get_or all i x
@@ -48,11 +48,11 @@ dumped path keys view shown slice all none front whole empty first second same a
 -- ---- one counter
 
 module _ (key : List ℕ) where
-  inc_lines : (bys : List ℕ) → edits_text (map (Inc key) bys) ≡ counts_text (codes "inc") key bys
+  inc_lines : (bys : List ℕ) → edits_text (map (Inc key) bys) ≡ counts_as_lines (codes "inc") key bys
   inc_lines [] = refl
   inc_lines (by ∷ bys) = ap (λ (t : List ℕ). (count_line (codes "inc") key by ++ 10 ∷ []) ++ t) (inc_lines bys)
 
-  dec_lines : (bys : List ℕ) → edits_text (map (Dec key) bys) ≡ counts_text (codes "dec") key bys
+  dec_lines : (bys : List ℕ) → edits_text (map (Dec key) bys) ≡ counts_as_lines (codes "dec") key bys
   dec_lines [] = refl
   dec_lines (by ∷ bys) = ap (λ (t : List ℕ). (count_line (codes "dec") key by ++ 10 ∷ []) ++ t) (dec_lines bys)
 
@@ -65,20 +65,20 @@ module _ (key : List ℕ) where
 
   -- one that stands below 0
   pub below_zero : (sum : ℤ) (amount : ℕ) → amount ≡ unsigned_abs sum → lt_z sum (pos 0) ≡ true
-      → edits_text (sum_edits key sum) ≡ counts_text (codes "dec") key (amounts (amount - 1))
+      → edits_text (sum_edits key sum) ≡ counts_as_lines (codes "dec") key (amounts (amount - 1))
   below_zero (pos zero) amount is lt = absurd cc
   below_zero (pos (suc n)) amount is lt = absurd (omega (arith, ltb-true (suc n) 0 lt))
   below_zero (negsuc n) amount is lt =
       let one : n ≡ amount - 1 = omega (arith, is) in
-      dec_lines (amounts n) ∙ ap (λ (m : ℕ). counts_text (codes "dec") key (amounts m)) one
+      dec_lines (amounts n) ∙ ap (λ (m : ℕ). counts_as_lines (codes "dec") key (amounts m)) one
 
   -- one that stands above it
   pub above_zero : (sum : ℤ) (amount : ℕ) → amount ≡ unsigned_abs sum → amount ≢ 0 → lt_z sum (pos 0) ≡ false
-      → edits_text (sum_edits key sum) ≡ counts_text (codes "inc") key (amounts (amount - 1))
+      → edits_text (sum_edits key sum) ≡ counts_as_lines (codes "inc") key (amounts (amount - 1))
   above_zero (pos zero) amount is some no_less = absurd (some is)
   above_zero (pos (suc n)) amount is some no_less =
       let one : n ≡ amount - 1 = omega (arith, is) in
-      inc_lines (amounts n) ∙ ap (λ (m : ℕ). counts_text (codes "inc") key (amounts m)) one
+      inc_lines (amounts n) ∙ ap (λ (m : ℕ). counts_as_lines (codes "inc") key (amounts m)) one
   above_zero (negsuc n) amount is some no_less = absurd cc
 
 -- ---- amounts that make up one
@@ -94,11 +94,11 @@ one_less times turn rest lt =
 
 -- the line of one more
 pub turn_done : (word key : List ℕ) (times turn rest : ℕ) (now next whole : List ℕ) → turn < times
-    → now ++ counts_text word key (left_over (times - turn) rest) ≡ whole → next ≡ now ++ (count_line word key most ++ 10 ∷ [])
-    → next ++ counts_text word key (left_over (times - (turn + 1)) rest) ≡ whole
+    → now ++ counts_as_lines word key (left_over (times - turn) rest) ≡ whole → next ≡ now ++ (count_line word key most ++ 10 ∷ [])
+    → next ++ counts_as_lines word key (left_over (times - (turn + 1)) rest) ≡ whole
 turn_done word key times turn rest now next whole lt told is =
-    let later = counts_text word key (left_over (times - (turn + 1)) rest) in
+    let later = counts_as_lines word key (left_over (times - (turn + 1)) rest) in
     ap (λ (t : List ℕ). t ++ later) is
     ∙ append_assoc now (count_line word key most ++ 10 ∷ []) later
-    ∙ sym (ap (λ (bys : List ℕ). now ++ counts_text word key bys) (one_less times turn rest lt))
+    ∙ sym (ap (λ (bys : List ℕ). now ++ counts_as_lines word key bys) (one_less times turn rest lt))
     ∙ told

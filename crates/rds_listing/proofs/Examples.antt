@@ -8,14 +8,14 @@ use Rattle.rds_names.specs.declared.scalar.Scalar.TheVariants as scalars
 use Rattle.rds_state.specs.declared.command.Command.TheVariants.{Set}
 use Rattle.rds_listing.specs.Conflicts.{conflict_line}
 use Rattle.rds_listing.specs.Differences.{counter_line, leaf_at, only_line}
-use Rattle.rds_listing.specs.Dump.{edit_line, edits_text, sum_edits}
+use Rattle.rds_listing.specs.Dump.{line_of_edit, edits_text, sum_edits}
 
 conflict_example : conflict_line (record { path = codes "a" ∷ codes "b" ∷ []; kind = Reg; values = scalars.Int (pos 1) ∷ scalars.Text (codes "x") ∷ [] })
     ≡ codes "{\"path\":\"a/b\",\"values\":[1,\"x\"]}"
 unfolding serde_json_on_literals digits
 conflict_example = refl
 
-set_example : edit_line (Set (codes "a" ∷ codes "b" ∷ []) (scalars.Text (codes "x"))) ≡ codes "[\"set\",\"a/b\",\"x\"]"
+set_example : line_of_edit (Set (codes "a" ∷ codes "b" ∷ []) (scalars.Text (codes "x"))) ≡ codes "[\"set\",\"a/b\",\"x\"]"
 unfolding serde_json_on_literals digits
 set_example = refl
 

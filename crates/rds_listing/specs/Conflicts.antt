@@ -5,14 +5,14 @@ use Rattle.rds_names.specs.declared.entry.Kind.TheVariants.{Reg}
 use Rattle.rds_state.specs.Value.{StateValue}
 use Rattle.rds_tree.specs.Document.{document}
 use Rattle.rds_tree.specs.Shown.{Shown}
-use Rattle.rds_tree.specs.View.{is_kind, view_of}
+use Rattle.rds_tree.specs.View.{is_that_kind, view_of}
 use Rattle.rds_json.specs.Show.{scalars_data}
 use Rattle.rds_json.specs.Spelling.{path_data}
 use Rattle.rds_listing.specs.Pieces.{lines_text}
 use Rattle.rds_listing.specs.Standings.{StandingValue, standings}
 
 abbrev pub is_conflict : StandingValue → Bool
-is_conflict standing = is_kind Reg standing.kind && nat_lt 1 (length standing.values)
+is_conflict standing = is_that_kind Reg standing.kind && nat_lt 1 (length standing.values)
 
 -- its path and its values
 abbrev pub conflict_line : StandingValue → List ℕ

@@ -27,11 +27,11 @@ abbrev pub leaf_at : List (List ℕ) → Kind → Scalar → Placed
 leaf_at path kind value = record { path = path; kind = kind; value = value }
 
 -- each value of registers and sets by itself
-abbrev pub leaves_in : StandingValue → List Placed
-leaves_in s = map (leaf_at s.path s.kind) s.values
+abbrev pub leaves_standing : StandingValue → List Placed
+leaves_standing s = map (leaf_at s.path s.kind) s.values
 
 abbrev pub leaves : List StandingValue → List Placed
-leaves all = flat_map leaves_in all
+leaves all = flat_map leaves_standing all
 
 -- by path, then by kind, then by value
 abbrev pub leaf_cmp : Placed → Placed → Ordering
@@ -50,9 +50,9 @@ from leaf [] = []
 from leaf (l ∷ ls) = if is_lt (leaf_cmp l leaf) then from leaf ls else l ∷ ls
 
 -- whether they begin with the leaf
-abbrev pub is_met : Placed → List Placed → Bool
-is_met leaf [] = false
-is_met leaf (l ∷ ls) = is_eq (leaf_cmp l leaf)
+abbrev pub begins_with_leaf : Placed → List Placed → Bool
+begins_with_leaf leaf [] = false
+begins_with_leaf leaf (l ∷ ls) = is_eq (leaf_cmp l leaf)
 
 -- those behind it, where they do
 abbrev pub behind : Placed → List Placed → List Placed
@@ -74,7 +74,7 @@ only_first ls = map (only_line (codes "first")) ls
 
 -- a leaf of the second, where the rest of the first doesn't begin with it
 abbrev pub only_second : Placed → List Placed → List (List ℕ)
-only_second leaf firsts = if is_met leaf firsts then [] else only_line (codes "second") leaf ∷ []
+only_second leaf firsts = if begins_with_leaf leaf firsts then [] else only_line (codes "second") leaf ∷ []
 
 abbrev pub leaf_lines : List Placed → List Placed → List (List ℕ)
 leaf_lines firsts [] = only_first firsts
@@ -84,15 +84,15 @@ leaf_lines firsts (leaf ∷ seconds) =
 
 -- ---- counters
 
-abbrev pub sum_text : Option ℤ → List ℕ
-sum_text None = codes "null"
-sum_text (Some sum) = signed_decimal sum
+abbrev pub counter_sum_text : Option ℤ → List ℕ
+counter_sum_text None = codes "null"
+counter_sum_text (Some sum) = signed_decimal sum
 
 -- what both counters of a key stand at
 abbrev pub counter_line : List ℕ → Option ℤ → Option ℤ → List ℕ
 counter_line key first second =
-    codes "{\"path\":" ++ (compact_text (string key) ++ (codes ",\"kind\":\"counter\",\"first\":" ++ (sum_text first
-    ++ (codes ",\"second\":" ++ (sum_text second ++ codes "}")))))
+    codes "{\"path\":" ++ (compact_text (string key) ++ (codes ",\"kind\":\"counter\",\"first\":" ++ (counter_sum_text first
+    ++ (codes ",\"second\":" ++ (counter_sum_text second ++ codes "}")))))
 
 -- those whose keys come before a key, and those from the first on whose key doesn't
 abbrev pub sums_before : List ℕ → List (List ℕ × ℤ) → List (List ℕ × ℤ)

@@ -54,16 +54,16 @@ abbrev pub count_line : List ℕ → List ℕ → ℕ → List ℕ
 count_line word key by = compact_text (line_of_word word (string key ∷ amount_data by ∷ []))
 
 -- such a line for each amount
-abbrev pub counts_text : List ℕ → List ℕ → List ℕ → List ℕ
-counts_text word key amounts = lines_text (map (count_line word key) amounts)
+abbrev pub counts_as_lines : List ℕ → List ℕ → List ℕ → List ℕ
+counts_as_lines word key amounts = lines_text (map (count_line word key) amounts)
 
 -- an edit as its line
-abbrev pub edit_line : Command → List ℕ
-edit_line edit = compact_text (edit_data edit)
+abbrev pub line_of_edit : Command → List ℕ
+line_of_edit edit = compact_text (edit_data edit)
 
 -- a line for each edit
 abbrev pub edits_text : List Command → List ℕ
-edits_text edits = lines_text (map edit_line edits)
+edits_text edits = lines_text (map line_of_edit edits)
 
 -- those of what a state's document has at a path
 abbrev pub dump_text : StateValue → List (List ℕ) → List ℕ

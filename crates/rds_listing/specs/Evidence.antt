@@ -29,9 +29,9 @@ kind_text Reg = codes "\"reg\""
 kind_text Elem = codes "\"set\""
 
 -- where the entry stands, how, and its value
-abbrev pub entry_text : Option Entry → List ℕ
-entry_text None = codes "\"path\":null,\"kind\":null,\"value\":null"
-entry_text (Some entry) =
+abbrev pub entry_evidence : Option Entry → List ℕ
+entry_evidence None = codes "\"path\":null,\"kind\":null,\"value\":null"
+entry_evidence (Some entry) =
     codes "\"path\":" ++ compact_text (path_data entry.path) ++ codes ",\"kind\":" ++ kind_text entry.kind
     ++ codes ",\"value\":" ++ compact_text (scalar_data entry.value)
 
@@ -39,7 +39,7 @@ entry_text (Some entry) =
 abbrev pub live_line : RosterValue → StateValue → Dot → List ℕ
 live_line roster delta dot =
     codes "{\"live\":[" ++ name_text roster dot.replica ++ codes "," ++ decimal dot.seq ++ codes "],"
-    ++ entry_text (entry_of (fin.get delta.lives dot)) ++ codes "}"
+    ++ entry_evidence (entry_of (fin.get delta.lives dot)) ++ codes "}"
 
 -- how far dots have come there
 abbrev pub rank_text : ℕ → List ℕ
@@ -47,13 +47,13 @@ rank_text rank =
     if nat_eq rank 0 then codes "\"unseen\"" else if nat_eq rank 1 then codes "\"live\"" else codes "\"dead\""
 
 -- a replica's name, and its first and last number
-abbrev pub run_text : RosterValue → Run → List ℕ
-run_text roster run = name_text roster run.replica ++ codes "," ++ decimal run.lo ++ codes "," ++ decimal run.hi
+abbrev pub named_run_text : RosterValue → Run → List ℕ
+named_run_text roster run = name_text roster run.replica ++ codes "," ++ decimal run.lo ++ codes "," ++ decimal run.hi
 
 -- a run of dots, and how far they have come there
 abbrev pub dead_line : RosterValue → Run → ℕ → List ℕ
 dead_line roster run rank =
-    codes "{\"dead\":[" ++ run_text roster run ++ codes "],\"was\":" ++ rank_text rank ++ codes "}"
+    codes "{\"dead\":[" ++ named_run_text roster run ++ codes "],\"was\":" ++ rank_text rank ++ codes "}"
 
 -- the sum of increments or of decrements
 abbrev pub which_text : Which → List ℕ

@@ -14,9 +14,9 @@ use Rattle.rds_tree.specs.View.{view_of}
 use Rattle.rds_json.specs.Standing.{values_at}
 
 -- the registers of a view, or its sets
-abbrev pub values_in : Kind → Shown → List (List ℕ × List Scalar)
-values_in Reg shown = regs_in shown
-values_in Elem shown = sets_in shown
+abbrev pub values_of_kind : Kind → Shown → List (List ℕ × List Scalar)
+values_of_kind Reg shown = regs_in shown
+values_of_kind Elem shown = sets_in shown
 
 -- the value of a register alone, an element of a set among others
 abbrev pub IsThere : Kind → Scalar → List Scalar → Type 0
@@ -28,13 +28,13 @@ pub record StandsAt (state : StateValue) (kind : Kind) (path : List (List ℕ)) 
   pub above : List (List ℕ)
   pub key : List ℕ
   pub place : path ≡ above ++ key ∷ []
-  pub there : IsThere kind value (values_at key (values_in kind (view_of (document state) above)))
+  pub there : IsThere kind value (values_at key (values_of_kind kind (view_of (document state) above)))
 
 -- of a value that is set and of one that is added; no other edit says what stands
-abbrev pub Stands : StateValue → Command → Type 0
-Stands state (Set path value) = StandsAt state Reg path value
-Stands state (Add path value) = StandsAt state Elem path value
-Stands state (Del path value) = ⊥
-Stands state (Clear path) = ⊥
-Stands state (Inc key by) = ⊥
-Stands state (Dec key by) = ⊥
+abbrev pub StandsThere : StateValue → Command → Type 0
+StandsThere state (Set path value) = StandsAt state Reg path value
+StandsThere state (Add path value) = StandsAt state Elem path value
+StandsThere state (Del path value) = ⊥
+StandsThere state (Clear path) = ⊥
+StandsThere state (Inc key by) = ⊥
+StandsThere state (Dec key by) = ⊥

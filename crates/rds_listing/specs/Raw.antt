@@ -5,10 +5,10 @@ use Rattle.rds_names.specs.declared.scalar.Scalar.{Scalar}
 use Rattle.rds_names.specs.declared.scalar.Scalar.TheVariants.{Null, Bool as Truth, Int, Text}
 use Rattle.rds_state.specs.Value.{StateValue}
 use Rattle.rds_tree.specs.Document.{document}
-use Rattle.rds_tree.specs.Row.{is_full}
+use Rattle.rds_tree.specs.Row.{is_filled}
 use Rattle.rds_tree.specs.Shown.{Shown, shows}
 use Rattle.rds_tree.specs.View.{view_of}
-use Rattle.rds_json.specs.Standing.{counter_at, values_at}
+use Rattle.rds_json.specs.Standing.{counter_standing, values_at}
 use Rattle.rds_listing.specs.Pieces.{lines_text}
 use Rattle.rds_listing.specs.declared.bare.Raw.{Raw}
 use Rattle.rds_listing.specs.declared.bare.Raw.TheVariants as raws
@@ -40,7 +40,7 @@ wanted_lines Counter reg set counter = sum_lines counter ∷ []
 -- those that have any, at a key of a view
 abbrev pub lines_at : Wanted → List ℕ → Shown → List (List (List ℕ))
 lines_at wanted key (shows maps regs sets counters) =
-    filter is_full (wanted_lines wanted (values_at key regs) (values_at key sets) (counter_at key counters))
+    filter is_filled (wanted_lines wanted (values_at key regs) (values_at key sets) (counter_standing key counters))
 
 -- none of the kinds has a line, or one alone, whose lines are the text, or several
 abbrev pub IsRaw : List (List (List ℕ)) → Raw → Type 0

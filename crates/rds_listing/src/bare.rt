@@ -4,7 +4,7 @@ ghost use Rattle.rds_listing.specs.Pieces.{lines_text};
 ghost use Rattle.rds_listing.specs.Raw.{GivesRaw, IsRaw, lines_at, raw_line, sum_lines, values_lines, wanted_lines};
 ghost use Rattle.rds_listing.specs.declared.bare.Wanted.TheVariants.{Any};
 ghost use Rattle.rds_names.specs.declared.fault.Fault.TheVariants.{Memory};
-ghost use Rattle.rds_tree.specs.Row.{is_full};
+ghost use Rattle.rds_tree.specs.Row.{is_filled};
 ghost use Rattle.rds_tree.specs.Shown.{shown_view};
 
 use crate::pieces::push_line;
@@ -72,7 +72,7 @@ pub fn raw_of(
     set: &[Scalar],
     counter: Option<i64>,
 ) -> Result<Raw, Fault>
-    ensures raw { IfOk result (IsRaw (filter is_full (wanted_lines wanted reg.now set.now counter))) }
+    ensures raw { IfOk result (IsRaw (filter is_filled (wanted_lines wanted reg.now set.now counter))) }
     ensures memory { IfErr result (λ fault. fault ≡ Memory) }
 {
     match wanted {
@@ -90,7 +90,7 @@ fn raw_of_any(
     set: &[Scalar],
     counter: Option<i64>,
 ) -> Result<Raw, Fault>
-    ensures raw { IfOk result (IsRaw (filter is_full (wanted_lines Any reg.now set.now counter))) }
+    ensures raw { IfOk result (IsRaw (filter is_filled (wanted_lines Any reg.now set.now counter))) }
     ensures memory { IfErr result (λ fault. fault ≡ Memory) }
 {
     match (reg.is_empty(), set.is_empty(), counter) {
@@ -103,7 +103,7 @@ fn raw_of_any(
 
 // Those of a register or of a set.
 fn raw_of_values(alloc: Global, values: &[Scalar]) -> Result<Raw, Fault>
-    ensures raw { IfOk result (IsRaw (filter is_full (values_lines values.now ∷ []))) }
+    ensures raw { IfOk result (IsRaw (filter is_filled (values_lines values.now ∷ []))) }
     ensures memory { IfErr result (λ fault. fault ≡ Memory) }
 {
     if values.is_empty() {
@@ -114,7 +114,7 @@ fn raw_of_values(alloc: Global, values: &[Scalar]) -> Result<Raw, Fault>
 
 // That of a counter.
 fn raw_of_sum(alloc: Global, counter: Option<i64>) -> Result<Raw, Fault>
-    ensures raw { IfOk result (IsRaw (filter is_full (sum_lines counter ∷ []))) }
+    ensures raw { IfOk result (IsRaw (filter is_filled (sum_lines counter ∷ []))) }
     ensures memory { IfErr result (λ fault. fault ≡ Memory) }
 {
     match counter {

@@ -2,7 +2,7 @@
 ghost use Rattle.std.specs.Prelude.{◌≡◌, ◌++◌, ◌∷◌, [], Some, IfErr, IfOk, OnOk, string_bytes};
 ghost use Rattle.std.specs.FinMap as fin;
 ghost use Rattle.rds_life.specs.Life.{entry_of};
-ghost use Rattle.rds_listing.specs.Evidence.{counter_text, dead_line, entry_text, evidence_text, kind_text, live_line, much_text, name_text, number_line, rank_text, replica_text, row_line, run_text, which_text};
+ghost use Rattle.rds_listing.specs.Evidence.{counter_text, dead_line, entry_evidence, evidence_text, kind_text, live_line, much_text, name_text, number_line, rank_text, replica_text, row_line, named_run_text, which_text};
 ghost use Rattle.rds_names.specs.declared.fault.Fault.TheVariants.{Memory};
 
 use crate::pieces::{path_text, push_line};
@@ -102,7 +102,7 @@ fn live_line<S: DotSet>(
 // The members of what a dot has in the delta.
 fn found_text<S: DotSet>(alloc: Global, delta: &State<S>, dot: Dot) -> Result<String, Fault>
     ensures text { IfOk result
-        (λ text. string_bytes text ≡ entry_text (entry_of (fin.get delta.now.lives dot))) }
+        (λ text. string_bytes text ≡ entry_evidence (entry_of (fin.get delta.now.lives dot))) }
     ensures memory { IfErr result (λ fault. fault ≡ Memory) }
 {
     match delta.lives().entry(dot) {
@@ -113,7 +113,7 @@ fn found_text<S: DotSet>(alloc: Global, delta: &State<S>, dot: Dot) -> Result<St
 
 // The members of an entry.
 fn entry_text(alloc: Global, entry: &Entry) -> Result<String, Fault>
-    ensures text { IfOk result (λ text. string_bytes text ≡ entry_text (Some entry.now)) }
+    ensures text { IfOk result (λ text. string_bytes text ≡ entry_evidence (Some entry.now)) }
     ensures memory { IfErr result (λ fault. fault ≡ Memory) }
 {
     let path = path_text(alloc, entry.path().keys())?;
@@ -144,7 +144,7 @@ fn dead_line(alloc: Global, roster: &Roster, run: Run, rank: u8) -> Result<Strin
 
 // Whose dots a run has, and which.
 fn run_text(alloc: Global, roster: &Roster, run: Run) -> Result<String, Fault>
-    ensures text { IfOk result (λ text. string_bytes text ≡ run_text roster.now run) }
+    ensures text { IfOk result (λ text. string_bytes text ≡ named_run_text roster.now run) }
     ensures memory { IfErr result (λ fault. fault ≡ Memory) }
 {
     let Run { replica, lo, hi } = run;

@@ -7,10 +7,10 @@ ghost use Rattle.rds_listing.specs.Dump.{
   amounts,
   count_line,
   counter_edits,
-  counts_text,
+  counts_as_lines,
   dump_edits,
   dump_text,
-  edit_line,
+  line_of_edit,
   edits_text,
   standing_edits,
   sum_edits,
@@ -100,7 +100,7 @@ fn push_values(
 
 // The line of a value.
 fn value_line(alloc: Global, path: &[Key], kind: Kind, value: &Scalar) -> Result<String, Fault>
-    ensures text { IfOk result (λ text. string_bytes text ≡ edit_line (value_edit path.now kind value.now)) }
+    ensures text { IfOk result (λ text. string_bytes text ≡ line_of_edit (value_edit path.now kind value.now)) }
     ensures memory { IfErr result (λ fault. fault ≡ Memory) }
 {
     match kind {
@@ -192,7 +192,7 @@ fn push_amounts(
     below: u64,
 ) -> Result<(), Fault>
     ensures text { OnOk result
-        (string_bytes text.new ≡ string_bytes text.old ++ counts_text word.now key.now (amounts below)) }
+        (string_bytes text.new ≡ string_bytes text.old ++ counts_as_lines word.now key.now (amounts below)) }
     ensures memory { IfErr result (λ fault. fault ≡ Memory) }
 {
     let times = below / MOST;

@@ -1,6 +1,6 @@
 //! The values of registers and sets, each where it stands.
 ghost use Rattle.std.specs.Prelude.{◌≡◌, ◌++◌, IfErr, IfOk, OnOk, map};
-ghost use Rattle.rds_listing.specs.Differences.{before, behind, from, is_met, leaf_at, leaf_cmp, leaves, leaves_in};
+ghost use Rattle.rds_listing.specs.Differences.{before, behind, from, begins_with_leaf, leaf_at, leaf_cmp, leaves, leaves_standing};
 ghost use Rattle.rds_names.specs.declared.fault.Fault.TheVariants.{Memory};
 
 use crate::standings::Standing;
@@ -38,7 +38,7 @@ pub fn leaves_of(alloc: Global, all: &[Standing]) -> Result<Vec<Leaf>, Fault>
 }
 
 fn add_standing(alloc: Global, found: &mut Vec<Leaf>, standing: &Standing) -> Result<(), Fault>
-    ensures ok { OnOk result (found.new.items ≡ found.old.items ++ leaves_in standing.now) }
+    ensures ok { OnOk result (found.new.items ≡ found.old.items ++ leaves_standing standing.now) }
     ensures memory { IfErr result (λ fault. fault ≡ Memory) }
 {
     let (path, values) = (standing.path.as_slice(), standing.values.as_slice());
@@ -108,7 +108,7 @@ pub fn split_before<'a>(rest: &'a [Leaf], leaf: &Leaf) -> (&'a [Leaf], &'a [Leaf
 
 /// Whether they begin with the leaf.
 pub fn is_met(leaf: &Leaf, rest: &[Leaf]) -> bool
-    ensures { result ≡ is_met leaf.now rest.now }
+    ensures { result ≡ begins_with_leaf leaf.now rest.now }
 {
     match rest.split_first() {
         Some((first, _)) => compare(first, leaf).is_eq(),

@@ -2,7 +2,7 @@
 ghost use Rattle.std.specs.Prelude.{◌≡◌, ◌↔◌, ◌≤◌, IfErr, IfOk, IsTrue, length};
 ghost use Rattle.std.specs.List.{Contains};
 ghost use Rattle.rds_json.specs.Standing.{values_at};
-ghost use Rattle.rds_listing.specs.Presence.{IsThere, Stands, StandsAt, values_in};
+ghost use Rattle.rds_listing.specs.Presence.{IsThere, StandsThere, StandsAt, values_of_kind};
 ghost use Rattle.rds_names.specs.declared.entry.Kind.TheVariants.{Reg};
 ghost use Rattle.rds_names.specs.declared.fault.Fault.TheVariants.{Memory};
 ghost use Rattle.rds_tree.specs.Shown.{shown_view};
@@ -17,7 +17,7 @@ use std::alloc::Global;
 /// Whether what an edit says stands there already, so that making it would show nothing new: the register has the
 /// value that is to be set and no other, or the set has the one that is to be added. No other edit says what stands.
 pub fn stands<S: DotSet>(alloc: Global, state: &State<S>, command: &Command) -> Result<bool, Fault>
-    ensures exact { IfOk result (λ b. IsTrue b ↔ Stands state.now command.now) }
+    ensures exact { IfOk result (λ b. IsTrue b ↔ StandsThere state.now command.now) }
     ensures memory { IfErr result (λ fault. fault ≡ Memory) }
 {
     match command {
@@ -66,7 +66,7 @@ fn path_of(alloc: Global, keys: &[Key]) -> Result<Path, Fault>
 
 // Whether a value stands at a key of a view.
 fn is_in(shape: &View, kind: Kind, key: &Key, value: &Scalar) -> bool
-    ensures { IsTrue result ↔ IsThere kind value.now (values_at key.now (values_in kind (shown_view shape.now))) }
+    ensures { IsTrue result ↔ IsThere kind value.now (values_at key.now (values_of_kind kind (shown_view shape.now))) }
 {
     match kind {
         Kind::Reg => is_alone(values_at(&shape.regs, key), value),

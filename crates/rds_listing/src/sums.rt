@@ -1,6 +1,6 @@
 //! What counters stand at differently.
 ghost use Rattle.std.specs.Prelude.{◌≡◌, ◌++◌, ◌∷◌, [], IfErr, IfOk, OnOk, map, string_bytes};
-ghost use Rattle.rds_listing.specs.Differences.{counter_line, counter_lines, first_line, is_sum, second_lines, sum_met, sum_text, sums_before, sums_behind, sums_from};
+ghost use Rattle.rds_listing.specs.Differences.{counter_line, counter_lines, first_line, is_sum, second_lines, sum_met, counter_sum_text, sums_before, sums_behind, sums_from};
 ghost use Rattle.rds_listing.specs.Pieces.{lines_text};
 ghost use Rattle.rds_names.specs.declared.fault.Fault.TheVariants.{Memory};
 
@@ -97,7 +97,7 @@ fn counter_line(
 }
 
 fn sum_text(alloc: Global, sum: Option<i64>) -> Result<String, Fault>
-    ensures text { IfOk result (λ text. string_bytes text ≡ sum_text sum) }
+    ensures text { IfOk result (λ text. string_bytes text ≡ counter_sum_text sum) }
     ensures memory { IfErr result (λ fault. fault ≡ Memory) }
 {
     match sum {

@@ -7,7 +7,7 @@ use Rattle.rds_names.specs.Roster.{RosterValue, Begins, OneBegins, longer}
 use Rattle.rds_state.specs.Fits.{Fits, ReplicaValue}
 use Rattle.rds_state.specs.Value.{StateValue, coordinates, size}
 use Rattle.rds_state.proofs.FitsLemmas.{fits_more}
-use Rattle.rds_meetings.specs.Settling.{HasTaken, IsJoined}
+use Rattle.rds_meetings.specs.Settling.{HasTaken, JoinsWith}
 
 -- ---- rosters
 
@@ -37,7 +37,7 @@ most_names r s =
 -- ---- changes
 
 -- what took a delta that fits into the roster that came was changed by it
-pub taken : (old : ReplicaValue) (came : RosterValue) (delta : StateValue) (new : ReplicaValue) → IsJoined old came delta new → Fits (length came.names) (coordinates delta) → HasTaken old delta new
+pub taken : (old : ReplicaValue) (came : RosterValue) (delta : StateValue) (new : ReplicaValue) → JoinsWith old came delta new → Fits (length came.names) (coordinates delta) → HasTaken old delta new
 taken old came delta new joined fits = record {
   roster = refl;
   begins = subst (λ (r : RosterValue). Begins old.roster r) (sym joined.roster) (begins_longer old.roster came joined.rosters);

@@ -14,7 +14,7 @@ use Rattle.rds_session.specs.Steps.{Continues, HasStanding, IsOver}
 use Rattle.rds_session.proofs.Course.{all_over}
 use Rattle.rds_session.proofs.Spoken.{sent_on, still_going}
 use Rattle.rds_session.proofs.Turns.{Came, consumes_kept, consumes_none, consumes_then, heard_on}
-use Rattle.rds_meetings.specs.Ends.{EndValue, HasHeardAll, Hears, HearsOn, HeardTheEnd, Takes}
+use Rattle.rds_meetings.specs.Ends.{EndValue, HasHeardAll, Hears, HearsOn, HeardTheEnd, TakesInput}
 
 over_or_going : (e : Ended) → (e ≡ Going) ⊎ IsOver e
 over_or_going Going = inl refl
@@ -75,7 +75,7 @@ said_on said pending lost more none = lost_on said pending lost more none ∙ ap
 
 -- an end that goes on takes a step
 steps_on : (side : Side) (kept : ReplicaValue) (first now later : Option (List ℕ)) (said : List ℕ) (input : Option (List ℕ)) {T : Type 0} (old new : EndValue T) (stream : T) → old.ended ≡ Going
-    → Takes input (record old { stream = stream }) new → Came now later input → Hears side kept first now said old → Hears side kept first later said new
+    → TakesInput input (record old { stream = stream }) new → Came now later input → Hears side kept first now said old → Hears side kept first later said new
 steps_on side kept first now later said input old new stream going takes came h =
     let none = none_lost old.ended old.session.ended h.lost going h.stands in
     let is = still_going side kept h.heard old.session (said ++ old.pending ++ h.lost) none.0 h.is_sent in
@@ -110,10 +110,10 @@ steps_on side kept first now later said input old new stream going takes came h 
     ]
 
 -- bytes, or the end, came from the stream, and were taken
-pub hears_on : {T : Type 0} (remaining : T → Option (List ℕ)) (input : Option (List ℕ)) (old mid new : EndValue T) (stream : T) → mid ≡ record old { stream = stream } → Takes input mid new
+pub hears_on : {T : Type 0} (remaining : T → Option (List ℕ)) (input : Option (List ℕ)) (old mid new : EndValue T) (stream : T) → mid ≡ record old { stream = stream } → TakesInput input mid new
     → Came (remaining old.stream) (remaining stream) input → HearsOn (remaining old.stream) (remaining new.stream) old new
 hears_on {T} remaining input old mid new stream is taken came side kept first said h =
-    let takes = subst (λ (e : EndValue T). Takes input e new) is taken in
+    let takes = subst (λ (e : EndValue T). TakesInput input e new) is taken in
     let at : stream ≡ new.stream = sym (ap (λ (e : EndValue T). e.stream) takes.same) in
     elim (over_or_going old.ended) [
       | inl going ↦ subst (λ (s : T). Hears side kept first (remaining s) said new) at (steps_on side kept first (remaining old.stream) (remaining stream) said input old new stream going takes came h)
@@ -133,7 +133,7 @@ over_then side kept heard new sent (inl on) = subst (λ (s : Standing). IsOver s
 over_then side kept heard new sent (inr out) = subst IsOver (sym out.ended) tt
 
 ends_then : (side : Side) (kept : ReplicaValue) (first now : Option (List ℕ)) (said : List ℕ) {T : Type 0} (old new : EndValue T) (stream : T) → old.ended ≡ Going
-    → Takes None (record old { stream = stream }) new → Hears side kept first now said old → IsOver new.ended
+    → TakesInput None (record old { stream = stream }) new → Hears side kept first now said old → IsOver new.ended
 ends_then side kept first now said old new stream going takes h =
     let none = none_lost old.ended old.session.ended h.lost going h.stands in
     let is = still_going side kept h.heard old.session (said ++ old.pending ++ h.lost) none.0 h.is_sent in
@@ -144,10 +144,10 @@ ends_then side kept first now said old new stream going takes h =
     ]
 
 -- the stream has ended, and that was taken
-pub heard_the_end : {T : Type 0} (remaining : T → Option (List ℕ)) (old mid new : EndValue T) (stream : T) → mid ≡ record old { stream = stream } → Takes None mid new → IsAtEnd (remaining stream)
+pub heard_the_end : {T : Type 0} (remaining : T → Option (List ℕ)) (old mid new : EndValue T) (stream : T) → mid ≡ record old { stream = stream } → TakesInput None mid new → IsAtEnd (remaining stream)
     → HeardTheEnd (remaining old.stream) (remaining new.stream) old new
 heard_the_end {T} remaining old mid new stream is taken at_end =
-    let takes = subst (λ (e : EndValue T). Takes None e new) is taken in
+    let takes = subst (λ (e : EndValue T). TakesInput None e new) is taken in
     let at : stream ≡ new.stream = sym (ap (λ (e : EndValue T). e.stream) takes.same) in (
       subst (λ (s : T). IsAtEnd (remaining s)) at at_end,
       λ side kept first said h. elim (over_or_going old.ended) [

@@ -18,7 +18,7 @@ use Rattle.rds_session.specs.Session.{Nothing, Standing, course}
 use Rattle.rds_session.specs.Steps.{Continues, HasStanding, IsOver}
 use Rattle.rds_files.specs.Files.{KeptFile, ReplacedValue}
 use Rattle.rds_meetings.specs.Forks.{EndForked, fork_text}
-use Rattle.rds_meetings.specs.Pairing.{IsEnd, Tells, WritesBoth}
+use Rattle.rds_meetings.specs.Pairing.{IsPairEnd, TellsEnd, WritesBoth}
 use Rattle.rds_meetings.specs.Reports.{report_text, tells_fault, told_status}
 use Rattle.rds_meetings.specs.Settling.{Settles}
 use Rattle.rds_meetings.specs.declared.settling.Settled.{Settled}
@@ -30,7 +30,7 @@ fresh_kept side kept s is = ap (λ (s : Standing). s.kept) is
 
 -- the first step
 pub begun : (side : Side) (kept : ReplicaValue) (first s : Standing) (ended : Ended) (sent : List ℕ) (input : Option (List ℕ))
-    → HasStanding side kept Nothing first → Continues side kept Nothing input s sent → s.kept ≡ first.kept → ended ≡ s.ended → IsEnd side kept s ended
+    → HasStanding side kept Nothing first → Continues side kept Nothing input s sent → s.kept ≡ first.kept → ended ≡ s.ended → IsPairEnd side kept s ended
 begun side kept first s ended sent input is (inl on) same e = record {
   kept_is = same ∙ fresh_kept side kept first is;
   heard = (_, inl on.standing);
@@ -61,7 +61,7 @@ at_last (Failed fault) last over going = (subst IsOver (sym (over tt)) tt, inl (
 
 -- an end that is left
 pub left : (side : Side) (kept : ReplicaValue) (s : Standing) (ended last : Ended) (received : Option Delivery)
-    → IsEnd side kept s ended → received ≡ s.received → HasChecked s.kept received → IsDoneBy s.ended received → IsOver last → (last ≡ ended) ⊎ (last ≡ Failed Device) → Leaves side kept received last
+    → IsPairEnd side kept s ended → received ≡ s.received → HasChecked s.kept received → IsDoneBy s.ended received → IsOver last → (last ≡ ended) ⊎ (last ≡ Failed Device) → Leaves side kept received last
 left side kept s ended last received is same checked done over e = record {
   checked = subst (λ (k : ReplicaValue). HasChecked k received) is.kept_is checked;
   done = left_done s ended last received is.stands e done;
@@ -71,12 +71,12 @@ left side kept s ended last received is same checked done over e = record {
 
 -- an end was settled, and is told of
 pub told_of : (side : Side) (file : KeptFile) (received : Option Delivery) (ended : Ended) (settled : Settled) (taken : Option ReplacedValue)
-    → Leaves side file.kept received ended → Settles file.path file.kept received settled taken → Tells side file (report_text settled ended) (tells_fault settled ended) taken
+    → Leaves side file.kept received ended → Settles file.path file.kept received settled taken → TellsEnd side file (report_text settled ended) (tells_fault settled ended) taken
 told_of side file received ended settled taken leaves settles =
     record { received = received; ended = ended; leaves = leaves; settled = settled; settles = settles; text_is = refl; told_is = refl }
 
 module _ (client server : KeptFile) (before after : Option (List ℕ)) (first second : List ℕ) (first_told second_told : Bool) (first_taken second_taken : Option ReplacedValue) (forked : Bool)
-    (one : Tells (Client Two) client first first_told first_taken) (two : Tells Server server second second_told second_taken) (fork : IsTrue forked ↔ EndForked first_taken second_taken) where
+    (one : TellsEnd (Client Two) client first first_told first_taken) (two : TellsEnd Server server second second_told second_taken) (fork : IsTrue forked ↔ EndForked first_taken second_taken) where
   -- both ends were told of
   told_both : (status : ℕ) → Appends before after (first ++ second ++ fork_text forked) → status ≡ told_status (first_told || second_told || forked) → WritesBoth client server before after status
   told_both status wrote e = record {

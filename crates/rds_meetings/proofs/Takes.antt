@@ -13,7 +13,7 @@ use Rattle.rds_delta.proofs.LeastLaws.{above_agrees, compatible_sym}
 use Rattle.rds_session.specs.Judging.{roster_among}
 use Rattle.rds_session.specs.Received.{Delivery, IsChecked, IsLongerIfThere}
 use Rattle.rds_files.specs.Files.{IsHeldAt, KeptFile, ReplacedValue}
-use Rattle.rds_meetings.specs.Settling.{IsJoined, IsSameReplica, KeepsTaken, RefusesAt, RefusesJoin, RefusesKnown, SettlesDelta, TakesDelta}
+use Rattle.rds_meetings.specs.Settling.{JoinsWith, IsSameReplica, KeepsTaken, RefusesAt, RefusesJoin, RefusesKnown, SettlesDelta, FileTakes}
 use Rattle.rds_meetings.specs.declared.settling.Settled.{Settled}
 use Rattle.rds_meetings.specs.declared.settling.Settled.TheVariants.{Taken, Unkept}
 
@@ -52,12 +52,12 @@ refused_held path file asked delivery fault held why = inr (record { held = file
 
 -- what a file held under its lock took a delta, and was kept there or couldn't be
 pub taken_held : (path : List ℕ) (file : KeptFile) (asked : ReplicaValue) (delivery : Delivery) (kept : ReplicaValue) (components : ℕ) (settled : Settled) (new : Option ReplacedValue)
-    → IsHeldAt path file → IsSameReplica asked file.kept → IsJoined file.kept (roster_among asked.roster delivery.1) delivery.0 kept → components ≡ size delivery.0
+    → IsHeldAt path file → IsSameReplica asked file.kept → JoinsWith file.kept (roster_among asked.roster delivery.1) delivery.0 kept → components ≡ size delivery.0
     → KeepsTaken file kept components settled new → SettlesDelta path asked delivery settled new
 taken_held path file asked delivery kept components (Taken n) (Some new) held same joined count keeps =
-    let taken : TakesDelta path asked delivery (record { path = file.path; before = file.kept; kept = kept }) =
+    let taken : FileTakes path asked delivery (record { path = file.path; before = file.kept; kept = kept }) =
     record { replaced = record { at = held.at; value = held.value; place = held.place }; same = same; joined = joined } in (
-      subst (TakesDelta path asked delivery) (sym keeps.0) taken,
+      subst (FileTakes path asked delivery) (sym keeps.0) taken,
       keeps.1 ∙ count,
     )
 taken_held path file asked delivery kept components (Unkept fault) None held same joined count keeps =

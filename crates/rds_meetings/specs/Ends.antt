@@ -39,7 +39,7 @@ pub record HasSaid {T : Type 0} (old new : EndValue T) (before after : Option (L
 
 -- a step of the session with this input: what it sends is to be said after what already is; or there was no memory for
 -- that
-pub record HasTaken (side : Side) (kept : ReplicaValue) (heard : Heard) (input : Option (List ℕ)) {T : Type 0}
+pub record HasStepped (side : Side) (kept : ReplicaValue) (heard : Heard) (input : Option (List ℕ)) {T : Type 0}
     (old new : EndValue T) : Type 0 where
   pub sent : List ℕ
   pub continues : Continues side kept heard input new.session sent
@@ -47,10 +47,10 @@ pub record HasTaken (side : Side) (kept : ReplicaValue) (heard : Heard) (input :
       ⊎ ((new.ended ≡ Failed Memory) × (new.pending ≡ old.pending))
 
 -- an end that goes on takes a step, and one that is over takes nothing more
-pub record Takes (input : Option (List ℕ)) {T : Type 0} (old new : EndValue T) : Type 0 where
+pub record TakesInput (input : Option (List ℕ)) {T : Type 0} (old new : EndValue T) : Type 0 where
   pub over : IsOver old.ended → new ≡ old
   pub going : old.ended ≡ Going → (side : Side) (kept : ReplicaValue) (heard : Heard)
-      → HasStanding side kept heard old.session → HasTaken side kept heard input old new
+      → HasStanding side kept heard old.session → HasStepped side kept heard input old new
   pub same : new ≡ record old { session = new.session; pending = new.pending; ended = new.ended }
 
 -- an end that heard what its stream held at first and doesn't hold now, each byte once and in order, but for what came

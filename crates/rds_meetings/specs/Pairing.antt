@@ -18,14 +18,14 @@ use Rattle.rds_meetings.specs.declared.pairing.paired.PairedFile.TheVariants.{Lo
 use Rattle.rds_meetings.specs.declared.settling.Settled.{Settled}
 
 -- an end of a session of this replica, on the way
-pub record IsEnd (side : Side) (kept : ReplicaValue) (s : Standing) (ended : Ended) : Type 0 where
+pub record IsPairEnd (side : Side) (kept : ReplicaValue) (s : Standing) (ended : Ended) : Type 0 where
   pub kept_is : s.kept ≡ kept
   pub heard : HasHeard side kept s
   pub stands : StandsAs s ended
 
 -- whatever end it was, it still is
 abbrev pub StaysEnd : Standing → Ended → Standing → Ended → Type 0
-StaysEnd old was new is = (side : Side) (kept : ReplicaValue) → IsEnd side kept old was → IsEnd side kept new is
+StaysEnd old was new is = (side : Side) (kept : ReplicaValue) → IsPairEnd side kept old was → IsPairEnd side kept new is
 
 -- what was read from a file of a pair
 abbrev pub file_of : {H S File Dir : Type 0} → PairedFile H S File Dir → KeptFile
@@ -34,7 +34,7 @@ file_of (Read file) = record { path = file.path; kept = file.kept }
 
 -- what is told of an end, whose replica was read from this file, whether a fault is told, and the file where it took what
 -- it received: that was settled in what the file held then
-pub record Tells (side : Side) (file : KeptFile) (text : List ℕ) (told : Bool) (taken : Option ReplacedValue) : Type 0 where
+pub record TellsEnd (side : Side) (file : KeptFile) (text : List ℕ) (told : Bool) (taken : Option ReplacedValue) : Type 0 where
   pub received : Option Delivery
   pub ended : Ended
   pub leaves : Leaves side file.kept received ended
@@ -49,11 +49,11 @@ pub record WritesBoth (client server : KeptFile) (before after : Option (List �
   pub first : List ℕ
   pub first_told : Bool
   pub first_taken : Option ReplacedValue
-  pub tells_first : Tells (Client Two) client first first_told first_taken
+  pub tells_first : TellsEnd (Client Two) client first first_told first_taken
   pub second : List ℕ
   pub second_told : Bool
   pub second_taken : Option ReplacedValue
-  pub tells_second : Tells Server server second second_told second_taken
+  pub tells_second : TellsEnd Server server second second_told second_taken
   pub forked : Bool
   pub forked_is : IsTrue forked ↔ EndForked first_taken second_taken
   pub written : Appends before after (first ++ second ++ fork_text forked)

@@ -25,7 +25,7 @@ pub record IsSameReplica (asked held : ReplicaValue) : Type 0 where
 
 -- a replica took a delta that came with this roster, and that has nothing of its own that it lacked: of the two rosters
 -- one begins the other, and the longer one is kept; the state is the join
-pub record IsJoined (old : ReplicaValue) (came : RosterValue) (delta : StateValue) (new : ReplicaValue) : Type 0 where
+pub record JoinsWith (old : ReplicaValue) (came : RosterValue) (delta : StateValue) (new : ReplicaValue) : Type 0 where
   pub rosters : OneBegins old.roster came
   pub roster : new.roster ≡ longer old.roster came
   pub own : new.own ≡ old.own
@@ -47,10 +47,10 @@ pub record RefusesDelta (old : ReplicaValue) (came : RosterValue) (delta : State
 
 -- the file at this path, which held the replica that asked, was read and then replaced: by the join of what it held
 -- then and the delta, under the longer of the two rosters
-pub record TakesDelta (path : List ℕ) (asked : ReplicaValue) (delivery : Delivery) (file : ReplacedValue) : Type 0 where
+pub record FileTakes (path : List ℕ) (asked : ReplicaValue) (delivery : Delivery) (file : ReplacedValue) : Type 0 where
   pub replaced : IsReplacedAt path file
   pub same : IsSameReplica asked file.before
-  pub joined : IsJoined file.before (roster_among asked.roster delivery.1) delivery.0 file.kept
+  pub joined : JoinsWith file.before (roster_among asked.roster delivery.1) delivery.0 file.kept
 
 -- why what a file holds now doesn't take a delta: it is another replica, or a take of it is refused
 abbrev pub RefusesJoin : ReplicaValue → ReplicaValue → Delivery → Fault → Type 0
@@ -74,7 +74,7 @@ pub record IsJoinedUnkept (asked : ReplicaValue) (delivery : Delivery) (fault : 
   pub value : IsSnapshot held
   pub same : IsSameReplica asked held
   pub kept : ReplicaValue
-  pub joined : IsJoined held (roster_among asked.roster delivery.1) delivery.0 kept
+  pub joined : JoinsWith held (roster_among asked.roster delivery.1) delivery.0 kept
   pub why : IsUnkept kept fault
 
 -- a replica took a delta, and its roster may have grown
@@ -91,7 +91,7 @@ KeepsTaken file replica components settled new = ⊥
 -- what became of a delta: the file took it and keeps it, or it wasn't taken, or the file couldn't be kept
 abbrev pub SettlesDelta : List ℕ → ReplicaValue → Delivery → Settled → Option ReplacedValue → Type 0
 SettlesDelta path asked delivery (Taken components) (Some file) =
-    TakesDelta path asked delivery file × (components ≡ size delivery.0)
+    FileTakes path asked delivery file × (components ≡ size delivery.0)
 SettlesDelta path asked delivery (Refused fault) None = RefusesAt path asked delivery fault
 SettlesDelta path asked delivery (Unkept fault) None = IsJoinedUnkept asked delivery fault
 SettlesDelta path asked delivery settled file = ⊥

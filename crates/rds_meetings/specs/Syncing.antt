@@ -11,7 +11,7 @@ use Rattle.rds_session.specs.Leaving.{IsOfCalls, Leaves}
 use Rattle.rds_session.specs.Received.{Delivery}
 use Rattle.rds_session.specs.declared.step.Ended.{Ended}
 use Rattle.rds_session.specs.declared.step.Ended.TheVariants.{Failed}
-use Rattle.rds_files.specs.Files.{FileValue, IsReadAt, IsReadBy, IsUnread, PathValue, ReplacedValue, read_more}
+use Rattle.rds_files.specs.Files.{FileValue, IsReadAt, IsReadBy, IsUnreadFile, PathValue, ReplacedValue, read_more}
 use Rattle.rds_meetings.specs.Reports.{WritesNone, WritesReport, report_text, tells_fault, told_status}
 use Rattle.rds_meetings.specs.Settling.{Settles, is_unkept}
 use Rattle.rds_meetings.specs.declared.settling.Settled.{Settled}
@@ -30,14 +30,14 @@ pub record IsSession (side : Side) (first now before after : Option (List ℕ)) 
   pub settles : Settles file.path file.kept received settled replaced
 
 -- a call failed before there was a session
-pub record IsUnmet (settled : Settled) (ended : Ended) : Type 0 where
+pub record HasNotMet (settled : Settled) (ended : Ended) : Type 0 where
   pub nothing : settled ≡ Nothing
   pub device : ended ≡ Failed Device
 
 -- a session over a stream that held this at first, or none
 abbrev pub Meets : Side → Option (List ℕ) → FileValue → Settled → Ended → Type 0
 Meets side first file settled ended =
-    IsUnmet settled ended
+    HasNotMet settled ended
     ⊎ ((now : Option (List ℕ)) × (before : Option (List ℕ)) × (after : Option (List ℕ))
     × IsSession side first now before after file settled ended)
 
@@ -53,7 +53,7 @@ pub record WritesSession (side : Side) (held : Option (List ℕ)) (file : FileVa
 pub record FindsNone (settled : Settled) (ended : Ended) : Type 0 where
   pub nothing : settled ≡ Nothing
   pub fault : Fault
-  pub unread : IsUnread fault
+  pub unread : IsUnreadFile fault
   pub failed : ended ≡ Failed fault
 
 -- a peer came, whatever it told, and the session was of what the file held by then: of the next reading of it
@@ -66,7 +66,7 @@ pub record MeetsOnce (side : Side) (at : PathValue) (settled : Settled) (ended :
 -- no peer came, or the file was read once more
 abbrev pub MeetsPeer : Side → PathValue → PathValue → Settled → Ended → Type 0
 MeetsPeer side at now settled ended =
-    ((now ≡ at) × IsUnmet settled ended)
+    ((now ≡ at) × HasNotMet settled ended)
     ⊎ ((now ≡ read_more at) × (FindsNone settled ended ⊎ MeetsOnce side at settled ended))
 
 -- sessions so far: how often the file was read by now, how many there were, what is told of them, whether a fault is,

@@ -5,7 +5,7 @@ ghost use Rattle.rds_session.specs.Judging.{roster_among};
 ghost use Rattle.rds_session.specs.Received.{HasChecked, IsChecked, delivery_of};
 ghost use Rattle.rds_state.specs.Value.{size};
 ghost use Rattle.rds_files.specs.Files.{IsUnkept};
-ghost use Rattle.rds_meetings.specs.Settling.{HasTaken, IsJoined, IsSameReplica, KeepsTaken, RefusesJoin, Settles, SettlesDelta};
+ghost use Rattle.rds_meetings.specs.Settling.{HasTaken, JoinsWith, IsSameReplica, KeepsTaken, RefusesJoin, Settles, SettlesDelta};
 
 use rds_dots::DotSet;
 use rds_files::{Disk, EmptiedFile, LockFile, LockedFile, ReplacedFile, ReplicaFile};
@@ -216,7 +216,7 @@ fn take_into<S: DotSet>(
 ) -> Result<(), Fault>
     requires { IsChecked asked.now (delta.now, roster) }
     ensures same { OnOk result (IsSameReplica asked.now held.old) }
-    ensures ok { OnOk result (IsJoined held.old (roster_among asked.now.roster roster) delta.now held.new) }
+    ensures ok { OnOk result (JoinsWith held.old (roster_among asked.now.roster roster) delta.now held.new) }
     ensures err { IfErr result (RefusesJoin asked.now held.old (delta.now, roster)) }
 {
     if !is_same_replica(asked, held) {

@@ -4,7 +4,7 @@ ghost use Rattle.std.specs.Process.{exit_status};
 ghost use Rattle.rds_names.specs.declared.fault.Fault.TheVariants.{Memory, Usage};
 ghost use Rattle.rds_output.specs.Output.{Writes};
 ghost use Rattle.rds_lines.specs.Run.{RunsJoin};
-ghost use Rattle.rds_lines.specs.Streams.{Tells, stream_of};
+ghost use Rattle.rds_lines.specs.Streams.{Emits, stream_of};
 ghost use Rattle.rds_words.specs.Commands.{join_words, sim_words};
 ghost use Rattle.rds_words.specs.Entered.{Names, mistakes_in, named_in};
 ghost use Rattle.rds_commands.specs.Told.{MayWriteNamed, RunsSim, TellsMistake};
@@ -57,7 +57,7 @@ where
     H::File: LockFile,
     // There are no words.
     ensures unread { IfErr words.entry
-        (λ fault. Tells (Writes (Err fault)) (stream_of W.contents writer.old writer.new) (exit_status result)) }
+        (λ fault. Emits (Writes (Err fault)) (stream_of W.contents writer.old writer.new) (exit_status result)) }
 
     // The words of `join` and of `sim`.
     ensures join { IfOk words.entry (λ words. Names (map S.text words.now) join_words
@@ -69,7 +69,7 @@ where
 
     // Other words that name a task, and words that the command line doesn't have.
     ensures task { IfOk words.entry (λ words. mistakes_in (map S.text words.now) ≡ []
-        → Tells (MayWriteNamed (named_in (map S.text words.now)) (stream_of R.remaining reader.old reader.new))
+        → Emits (MayWriteNamed (named_in (map S.text words.now)) (stream_of R.remaining reader.old reader.new))
         (stream_of W.contents writer.old writer.new) (exit_status result)) }
     ensures mistake { IfOk words.entry (λ words. mistakes_in (map S.text words.now) ≢ []
         → TellsMistake (mistakes_in (map S.text words.now)) (stream_of W.contents writer.old writer.new)

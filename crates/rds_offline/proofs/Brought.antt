@@ -13,7 +13,7 @@ use Rattle.rds_codec.specs.StateTexts.{IsSnapshot}
 use Rattle.rds_codec.specs.declared.limits.TheConstants.{LIMIT}
 use Rattle.rds_codec.proofs.Whole.{text_again}
 use Rattle.rds_questions.specs.Greeting.{GreetGives}
-use Rattle.rds_questions.specs.Laws.{IsAnswered, IsBrought}
+use Rattle.rds_questions.specs.Laws.{IsAnswered, BringsLacking}
 use Rattle.rds_questions.specs.Questions.{QuestionValue, askers_of, question_kind, question_of, question_text}
 use Rattle.rds_questions.specs.Receiving.{IsReceivedFrom, ReceivedValue, received_of}
 use Rattle.rds_questions.specs.Responding.{IsRespondedBy, IsResponseTo}
@@ -82,7 +82,7 @@ module _ (asked peer before after : ReplicaValue) (question answer : List ℕ) (
       begins_back : (a b : RosterValue) → OneBegins a b → OneBegins b a
       begins_back a b h = elim h [ inl one ↦ inr one | inr other ↦ inl other ]
 
-  brings : IsBrought Q peer r
+  brings : BringsLacking Q peer r
   brings = is_brought Q peer r is_answered_by
 
   received : IsReceivedFrom Q answer takes.received

@@ -9,12 +9,12 @@ use Rattle.rds_keep.specs.declared.layout.Layout.{Layout}
 use Rattle.std.specs.Prelude.{false, IfErr, IfOk}
 use Rattle.rds_state.specs.Fits.{ReplicaValue}
 use Rattle.rds_offline.specs.Copies.{InitsFrom, InitsFromCopy, MergesFile, RefusesInitFromCopy, RefusesMergeFile, RefusesMergeIn, RefusesNextFile, RefusesNextIn}
-use Rattle.rds_offline.specs.Merging.{CountsLacking, IsMerged}
+use Rattle.rds_offline.specs.Merging.{CountsLacking, IsMergedFrom}
 use Rattle.rds_offline.specs.Next.{IsNextOf}
 
 -- what was merged can't be kept
-pub unkept_merge : (source before old after : ReplicaValue) (fault : Fault) → old ≡ before → IsMerged source old after → IsUnkept after fault → RefusesMergeIn source before fault
-unkept_merge source before old after fault same merged unkept = inr (after, subst (λ (v : ReplicaValue). IsMerged source v after) same merged, unkept)
+pub unkept_merge : (source before old after : ReplicaValue) (fault : Fault) → old ≡ before → IsMergedFrom source old after → IsUnkept after fault → RefusesMergeIn source before fault
+unkept_merge source before old after fault same merged unkept = inr (after, subst (λ (v : ReplicaValue). IsMergedFrom source v after) same merged, unkept)
 
 module _ (path from : List ℕ) (source : FileValue) (opened : KeptFile) (given : ReplicaValue) (read : IsReadAt from source) (held : IsHeldAt path opened) (same : given ≡ source.kept) where
   -- what the file held doesn't take the copy
@@ -28,13 +28,13 @@ module _ (path from : List ℕ) (source : FileValue) (opened : KeptFile) (given 
   }))
 
   -- it took it
-  pub merges_file : (done : ReplacedValue) (components : ℕ) → done.path ≡ opened.path → done.before ≡ opened.kept → IsMerged given opened.kept done.kept → CountsLacking given opened.kept components
+  pub merges_file : (done : ReplacedValue) (components : ℕ) → done.path ≡ opened.path → done.before ≡ opened.kept → IsMergedFrom given opened.kept done.kept → CountsLacking given opened.kept components
       → MergesFile path from done components
   merges_file done components at is merged counted = record {
     read = record { at = at ∙ held.at; value = subst IsSnapshot (sym is) held.value; place = held.place };
     source = source;
     source_read = read;
-    merged = subst (λ (v : ReplicaValue). IsMerged source.kept v done.kept) (sym is) (subst (λ (v : ReplicaValue). IsMerged v opened.kept done.kept) same merged);
+    merged = subst (λ (v : ReplicaValue). IsMergedFrom source.kept v done.kept) (sym is) (subst (λ (v : ReplicaValue). IsMergedFrom v opened.kept done.kept) same merged);
     counted = subst (λ (v : ReplicaValue). CountsLacking source.kept v components) (sym is) (subst (λ (v : ReplicaValue). CountsLacking v opened.kept components) same counted);
   }
 

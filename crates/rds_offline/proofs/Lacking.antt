@@ -8,10 +8,10 @@ use Rattle.rds_state.proofs.JoinLaws.{reflexive}
 use Rattle.rds_state.specs.Coordinates.{join}
 use Rattle.rds_state.specs.Fits.{Fits, ReplicaValue}
 use Rattle.rds_state.specs.Value.{StateValue, coordinates}
-use Rattle.rds_offline.specs.Merging.{IsLacking}
+use Rattle.rds_offline.specs.Merging.{IsLackingPart}
 use Rattle.rds_offline.proofs.Longer.{longer_fits}
 
-module _ (source before after : ReplicaValue) (lacking : StateValue) (is : IsLacking source before lacking) where
+module _ (source before after : ReplicaValue) (lacking : StateValue) (is : IsLackingPart source before lacking) where
   -- it is all that the other has
   pub lacking_joined : coordinates after.state ≡ join (coordinates before.state) (coordinates source.state) → coordinates after.state ≡ join (coordinates before.state) (coordinates lacking)
   lacking_joined joined = joined ∙ sym (grown_delta (coordinates source.state) (coordinates before.state) (coordinates before.state) (reflexive (coordinates before.state))) ∙ ap (join (coordinates before.state)) (sym is)

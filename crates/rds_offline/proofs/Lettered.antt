@@ -21,7 +21,7 @@ use Rattle.rds_state.specs.Coordinates.{join}
 use Rattle.rds_state.specs.Fits.{ReplicaValue}
 use Rattle.rds_names.specs.Roster.{longer}
 use Rattle.rds_state.specs.Value.{coordinates, size}
-use Rattle.rds_offline.specs.Letters.{AnswersFile, BringsNothing, ChecksTexts, IsTaken, RefusesAnswer, RefusesCheck, RefusesTake, RefusesTakeIn, TakesFile}
+use Rattle.rds_offline.specs.Letters.{AnswersFile, BringsNothing, ChecksTexts, IsTakenFrom, RefusesAnswer, RefusesCheck, RefusesTake, RefusesTakeIn, TakesFile}
 
 -- what decoding a question gave
 abbrev pub IsGiven : List ℕ → QuestionValue → Type 0
@@ -52,10 +52,10 @@ no_take asked received before old fault same refused = inl (subst (λ (v : Repli
 
 -- a take of it was not refused
 pub is_taken : (asked : QuestionValue) (received : ReceivedValue) (before old after : ReplicaValue) → old ≡ before → TakesReceived asked old received (Ok tt)
-    → coordinates after.state ≡ join (coordinates old.state) (coordinates received.delta) → after.roster ≡ longer old.roster received.roster → after.own ≡ old.own → IsTaken received before after
+    → coordinates after.state ≡ join (coordinates old.state) (coordinates received.delta) → after.roster ≡ longer old.roster received.roster → after.own ≡ old.own → IsTakenFrom received before after
 is_taken asked received before old after same takes joined roster own =
-    let taken : IsTaken received old after = record { rosters = takes.1.0; roster = roster; own = own; joined = joined; known = takes.1.1.0 } in
-    subst (λ (v : ReplicaValue). IsTaken received v after) same taken
+    let taken : IsTakenFrom received old after = record { rosters = takes.1.0; roster = roster; own = own; joined = joined; known = takes.1.1.0 } in
+    subst (λ (v : ReplicaValue). IsTakenFrom received v after) same taken
 
 -- what was taken has no tag
 pub untold_take : (asked : QuestionValue) (received : ReceivedValue) (before old after : ReplicaValue) (fault : Fault) → old ≡ before → TakesReceived asked old received (Ok tt)
@@ -95,7 +95,7 @@ module _ (path question answer : List ℕ) (asked : QuestionValue) (is : IsGiven
     })))
 
     pub takes_file : (done : ReplacedValue) (components : ℕ) (forked : Bool) → done.path ≡ opened.path → done.before ≡ opened.kept → IsAsker asked opened.kept → HasAllOf asked.digest opened.kept.state
-        → IsTaken received opened.kept done.kept → components ≡ size received.delta → IsTrue forked ↔ TellsFork done.kept received → TakesFile path question answer done components forked
+        → IsTakenFrom received opened.kept done.kept → components ≡ size received.delta → IsTrue forked ↔ TellsFork done.kept received → TakesFile path question answer done components forked
     takes_file done components forked at before asker has_all taken count forks = record {
       read = record { at = at ∙ held.at; value = subst IsSnapshot (sym before) held.value; place = held.place };
       takes = record {
@@ -106,7 +106,7 @@ module _ (path question answer : List ℕ) (asked : QuestionValue) (is : IsGiven
         is_received = brought;
         replica = subst (IsAsker asked) (sym before) asker;
         has_all = subst (λ (v : ReplicaValue). HasAllOf asked.digest v.state) (sym before) has_all;
-        taken = subst (λ (v : ReplicaValue). IsTaken received v done.kept) (sym before) taken;
+        taken = subst (λ (v : ReplicaValue). IsTakenFrom received v done.kept) (sym before) taken;
         count = count;
       };
       forks = forks;

@@ -7,9 +7,9 @@ use Rattle.rds_state.proofs.JoinLaws.{reflexive}
 use Rattle.rds_delta.proofs.LeastLaws.{grown_delta}
 use Rattle.rds_world.proofs.Meeting.{longer_length}
 use Rattle.rds_world.proofs.Open.{TakesAnswer}
-use Rattle.rds_offline.specs.Merging.{IsMerged}
+use Rattle.rds_offline.specs.Merging.{IsMergedFrom}
 
-pub merge_takes : (source before after : ReplicaValue) → IsMerged source before after → TakesAnswer before source before after
+pub merge_takes : (source before after : ReplicaValue) → IsMergedFrom source before after → TakesAnswer before source before after
 merge_takes source before after merged = record {
   asker = refl;
   own = merged.own;

@@ -5,9 +5,9 @@ use Rattle.rds_names.specs.Name.{name_of}
 use Rattle.rds_codec.specs.StateTexts.{IsSnapshot}
 use Rattle.rds_keep.specs.Kept.{IsStored, RefusesBytes}
 use Rattle.rds_keep.specs.declared.layout.Layout.{Layout}
-use Rattle.rds_files.specs.Files.{FileValue, IsReadAt, IsReplacedAt, IsUnkept, IsUnread, KeptFile, RefusesFile, RefusesLock, ReplacedValue, is_beside}
+use Rattle.rds_files.specs.Files.{FileValue, IsReadAt, IsReplacedAt, IsUnkept, IsUnreadFile, KeptFile, RefusesFile, RefusesLock, ReplacedValue, is_beside}
 use Rattle.rds_state.specs.Fits.{ReplicaValue}
-use Rattle.rds_offline.specs.Merging.{CountsLacking, IsMerged, RefusesMerge}
+use Rattle.rds_offline.specs.Merging.{CountsLacking, IsMergedFrom, RefusesMerge}
 use Rattle.rds_offline.specs.Next.{IsNextOf, RefusesNext}
 
 -- ---- merging a copy
@@ -18,13 +18,13 @@ pub record MergesFile (path from : List ℕ) (file : ReplacedValue) (components 
   pub read : IsReplacedAt path file
   pub source : FileValue
   pub source_read : IsReadAt from source
-  pub merged : IsMerged source.kept file.before file.kept
+  pub merged : IsMergedFrom source.kept file.before file.kept
   pub counted : CountsLacking source.kept file.before components
 
 -- why what a file holds doesn't take all that a replica has seen: a take of it is refused, or the new one can't be kept
 abbrev pub RefusesMergeIn : ReplicaValue → ReplicaValue → Fault → Type 0
 RefusesMergeIn source before fault =
-    RefusesMerge source before fault ⊎ ((after : ReplicaValue) × IsMerged source before after × IsUnkept after fault)
+    RefusesMerge source before fault ⊎ ((after : ReplicaValue) × IsMergedFrom source before after × IsUnkept after fault)
 
 -- the same, of something that two files may hold
 pub record RefusesHeldMerge (fault : Fault) : Type 0 where
@@ -37,7 +37,7 @@ pub record RefusesHeldMerge (fault : Fault) : Type 0 where
 -- why the file at a path takes no copy: the copy can't be read, or the file can't be locked and read, or what it holds
 -- doesn't take it
 abbrev pub RefusesMergeFile : List ℕ → Fault → Type 0
-RefusesMergeFile path fault = IsUnread fault ⊎ (RefusesLock path fault ⊎ RefusesHeldMerge fault)
+RefusesMergeFile path fault = IsUnreadFile fault ⊎ (RefusesLock path fault ⊎ RefusesHeldMerge fault)
 
 -- ---- the next replica
 
@@ -80,7 +80,7 @@ pub record RefusesNextFile (own : List ℕ) (fault : Fault) : Type 0 where
 -- why no file is made from another: the own name is none; else the other file can't be read, or gives no such replica,
 -- or that can't be kept in a new file
 abbrev pub RefusesInitFrom : List ℕ → Fault → Type 0
-RefusesInitFrom own fault = (name_of own ≡ Err fault) ⊎ (IsUnread fault ⊎ RefusesNextFile own fault)
+RefusesInitFrom own fault = (name_of own ≡ Err fault) ⊎ (IsUnreadFile fault ⊎ RefusesNextFile own fault)
 
 -- why no file is made from bytes: the own name is none; else they are no file's, or give no such replica, or that can't
 -- be kept in a new file

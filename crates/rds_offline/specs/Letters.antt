@@ -5,7 +5,7 @@ use Rattle.rds_names.specs.declared.fault.Fault.TheVariants.{Memory, TooLong}
 use Rattle.rds_codec.specs.Decoding.{Decodes, IsTextOf, all_of}
 use Rattle.rds_codec.specs.StateTexts.{IsSnapshot}
 use Rattle.rds_codec.specs.declared.limits.TheConstants.{LIMIT}
-use Rattle.rds_files.specs.Files.{FileValue, IsReadAt, IsReplacedAt, IsUnkept, IsUnread, RefusesLock, ReplacedValue}
+use Rattle.rds_files.specs.Files.{FileValue, IsReadAt, IsReplacedAt, IsUnkept, IsUnreadFile, RefusesLock, ReplacedValue}
 use Rattle.rds_listing.specs.Evidence.{evidence_text}
 use Rattle.rds_questions.specs.Forks.{TellsFork}
 use Rattle.rds_questions.specs.Greeting.{GreetGives}
@@ -52,12 +52,12 @@ pub record RefusesQuestion (question : List ℕ) (fault : Fault) : Type 0 where
 -- respond
 abbrev pub RefusesAnswer : List ℕ → Fault → Type 0
 RefusesAnswer question fault =
-    Decodes question_kind question (Err fault) ⊎ (IsUnread fault ⊎ RefusesQuestion question fault)
+    Decodes question_kind question (Err fault) ⊎ (IsUnreadFile fault ⊎ RefusesQuestion question fault)
 
 -- ---- taking
 
 -- a replica took what was received: the join, and the longer of the rosters
-pub record IsTaken (received : ReceivedValue) (before after : ReplicaValue) : Type 0 where
+pub record IsTakenFrom (received : ReceivedValue) (before after : ReplicaValue) : Type 0 where
   pub rosters : OneBegins before.roster received.roster
   pub roster : after.roster ≡ longer before.roster received.roster
   pub own : after.own ≡ before.own
@@ -73,7 +73,7 @@ pub record TakesResponse (question answer : List ℕ) (before after : ReplicaVal
   pub is_received : IsReceivedFrom asked answer received
   pub replica : IsAsker asked before
   pub has_all : HasAllOf asked.digest before.state
-  pub taken : IsTaken received before after
+  pub taken : IsTakenFrom received before after
   pub count : components ≡ size received.delta
 
 -- the file at a path was read under its lock, and keeps what it held then with what the answer brought, whether that
@@ -88,7 +88,7 @@ pub record TakesFile (path question answer : List ℕ) (file : ReplacedValue) (c
 abbrev pub RefusesTakeIn : QuestionValue → ReceivedValue → ReplicaValue → Fault → Type 0
 RefusesTakeIn asked received before fault =
     TakesReceived asked before received (Err fault)
-    ⊎ ((after : ReplicaValue) × IsTaken received before after × (RefusesTag after fault ⊎ IsUnkept after fault))
+    ⊎ ((after : ReplicaValue) × IsTakenFrom received before after × (RefusesTag after fault ⊎ IsUnkept after fault))
 
 -- the same, of something that a file may hold
 pub record RefusesResponse (question answer : List ℕ) (fault : Fault) : Type 0 where
@@ -107,7 +107,7 @@ BringsNothing asked bytes fault =
     ⊎ ((length bytes ≤ LIMIT) × ReceivesRead asked (all_of (response_at (askers_of asked)) bytes) (Err fault))
 
 -- the bytes of an answer bring nothing for the question whose text was given
-pub record RefusesBytes (question answer : List ℕ) (fault : Fault) : Type 0 where
+pub record RefusesLetter (question answer : List ℕ) (fault : Fault) : Type 0 where
   pub asked : QuestionValue
   pub is_question : IsTextOf question_kind question asked
   pub why : BringsNothing asked answer fault
@@ -117,7 +117,7 @@ pub record RefusesBytes (question answer : List ℕ) (fault : Fault) : Type 0 wh
 abbrev pub RefusesTake : List ℕ → List ℕ → List ℕ → Fault → Type 0
 RefusesTake path question answer fault =
     Decodes question_kind question (Err fault)
-    ⊎ (RefusesBytes question answer fault ⊎ (RefusesLock path fault ⊎ RefusesResponse question answer fault))
+    ⊎ (RefusesLetter question answer fault ⊎ (RefusesLock path fault ⊎ RefusesResponse question answer fault))
 
 -- ---- looking at an answer
 
@@ -132,4 +132,4 @@ pub record ChecksTexts (question answer lines : List ℕ) : Type 0 where
 -- why there are none: the bytes are no question, or bring nothing for it; or want of memory
 abbrev pub RefusesCheck : List ℕ → List ℕ → Fault → Type 0
 RefusesCheck question answer fault =
-    Decodes question_kind question (Err fault) ⊎ (RefusesBytes question answer fault ⊎ (fault ≡ Memory))
+    Decodes question_kind question (Err fault) ⊎ (RefusesLetter question answer fault ⊎ (fault ≡ Memory))

@@ -13,7 +13,7 @@ use Rattle.rds_state.specs.Value.{StateValue, coordinates, size}
 
 -- it took the other's state, which has nothing of its own that it lacked, and the longer of the two rosters, of which
 -- one begins the other
-pub record IsMerged (source before after : ReplicaValue) : Type 0 where
+pub record IsMergedFrom (source before after : ReplicaValue) : Type 0 where
   pub rosters : OneBegins before.roster source.roster
   pub roster : after.roster ≡ longer before.roster source.roster
   pub own : after.own ≡ before.own
@@ -21,14 +21,14 @@ pub record IsMerged (source before after : ReplicaValue) : Type 0 where
   pub known : Ahead before.state before.own source.state None
 
 -- the other's components that it lacked, or had at a lower rank or number
-abbrev pub IsLacking : ReplicaValue → ReplicaValue → StateValue → Type 0
-IsLacking source before lacking =
+abbrev pub IsLackingPart : ReplicaValue → ReplicaValue → StateValue → Type 0
+IsLackingPart source before lacking =
     coordinates lacking ≡ least (coordinates source.state) (ranks (coordinates before.state))
 
 -- how many they are
 pub record CountsLacking (source before : ReplicaValue) (components : ℕ) : Type 0 where
   pub lacking : StateValue
-  pub is_least : IsLacking source before lacking
+  pub is_least : IsLackingPart source before lacking
   pub count : components ≡ size lacking
 
 -- why it doesn't take the other's state: as a take gives it, or want of memory

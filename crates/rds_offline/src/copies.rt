@@ -13,7 +13,7 @@ ghost use Rattle.rds_offline.specs.Copies.{
   RefusesMergeIn,
   RefusesNextIn,
 };
-ghost use Rattle.rds_offline.specs.Merging.{CountsLacking, IsMerged};
+ghost use Rattle.rds_offline.specs.Merging.{CountsLacking, IsMergedFrom};
 ghost use Rattle.rds_offline.specs.Next.{IsNextOf};
 
 use crate::changes::change_by;
@@ -71,7 +71,7 @@ where
     H::File: LockFile,
     ensures path { IfOk result (λ done. done.file.path ≡ file.entry.path) }
     ensures before { IfOk result (λ done. done.file.before ≡ file.entry.kept) }
-    ensures merged { IfOk result (λ done. IsMerged source.now file.entry.kept done.file.kept) }
+    ensures merged { IfOk result (λ done. IsMergedFrom source.now file.entry.kept done.file.kept) }
     ensures counted { IfOk result (λ done. CountsLacking source.now file.entry.kept done.components) }
     ensures fault { IfErr result (RefusesMergeIn source.now file.entry.kept) }
 {

@@ -1,7 +1,7 @@
 //! Questions and answers of the replicas in files.
 ghost use Rattle.std.specs.Prelude.{◌≡◌, ◌↔◌, length, IfErr, IfOk, IsTrue, string_bytes};
-ghost use Rattle.rds_files.specs.Files.{IsUnread};
-ghost use Rattle.rds_offline.specs.Letters.{AnswersFile, AsksFile, ChecksTexts, IsTaken, RefusesAnswer, RefusesCheck, RefusesTake, RefusesTakeIn, TakesFile};
+ghost use Rattle.rds_files.specs.Files.{IsUnreadFile};
+ghost use Rattle.rds_offline.specs.Letters.{AnswersFile, AsksFile, ChecksTexts, IsTakenFrom, RefusesAnswer, RefusesCheck, RefusesTake, RefusesTakeIn, TakesFile};
 ghost use Rattle.rds_questions.specs.Forks.{TellsFork};
 ghost use Rattle.rds_questions.specs.Taking.{HasAllOf, IsAsker};
 ghost use Rattle.rds_state.specs.Fits.{Fits};
@@ -62,7 +62,7 @@ pub fn ask_file<'a, H: Disk>(rt: &H, path: &'a str) -> Result<ToldFile<'a>, Faul
 where
     H::File: LockFile,
     ensures asked { IfOk result (λ told. AsksFile path.now told.file told.bytes.items) }
-    ensures fault { IfErr result IsUnread }
+    ensures fault { IfErr result IsUnreadFile }
 {
     let file: ReplicaFile<'a, GapSet> = ReplicaFile::open_lasting(rt, path)?;
     let alloc = rt.alloc();
@@ -147,7 +147,7 @@ where
     ensures before { IfOk result (λ done. done.file.before ≡ file.entry.kept) }
     ensures replica { IfOk result (λ _. IsAsker asked.now file.entry.kept) }
     ensures has_all { IfOk result (λ _. HasAllOf asked.now.digest file.entry.kept.state) }
-    ensures taken { IfOk result (λ done. IsTaken received.now file.entry.kept done.file.kept) }
+    ensures taken { IfOk result (λ done. IsTakenFrom received.now file.entry.kept done.file.kept) }
     ensures count { IfOk result (λ done. done.components ≡ size received.now.delta) }
     ensures forked { IfOk result (λ done. IsTrue done.forked ↔ TellsFork done.file.kept received.now) }
     ensures fault { IfErr result (RefusesTakeIn asked.now received.now file.entry.kept) }

@@ -3,7 +3,7 @@ ghost use Rattle.std.specs.Prelude.{◌≡◌, length, IfErr, IfOk, OnErr, OnOk}
 ghost use Rattle.rds_state.specs.Coordinates.{join};
 ghost use Rattle.rds_state.specs.Fits.{Fits};
 ghost use Rattle.rds_state.specs.Value.{coordinates};
-ghost use Rattle.rds_offline.specs.Merging.{IsLacking, IsMerged, RefusesMerge};
+ghost use Rattle.rds_offline.specs.Merging.{IsLackingPart, IsMergedFrom, RefusesMerge};
 
 use rds_delta::{Digest, delta};
 use rds_dots::DotSet;
@@ -24,8 +24,8 @@ pub fn merge<S: DotSet>(
     held: &mut Replica<S>,
     source: &Replica<S>,
 ) -> Result<State<S>, Fault>
-    ensures merged { OnOk result (IsMerged source.now held.old held.new) }
-    ensures lacking { IfOk result (IsLacking source.now held.old) }
+    ensures merged { OnOk result (IsMergedFrom source.now held.old held.new) }
+    ensures lacking { IfOk result (IsLackingPart source.now held.old) }
     ensures joined { IfOk result
         (λ lacking. coordinates held.new.state ≡ join (coordinates held.old.state) (coordinates lacking)) }
     ensures fits { IfOk result (λ lacking. Fits (length held.new.roster.names) (coordinates lacking)) }

@@ -21,13 +21,13 @@ abbrev pub output_of : Result (List ℕ) Fault → List ℕ
 output_of (Ok text) = encode_lower text ++ 10 ∷ []
 output_of (Err fault) = fault_line fault
 
-abbrev pub status_of : Result (List ℕ) Fault → ℕ
-status_of (Ok text) = 0
-status_of (Err fault) = fault_status fault
+abbrev pub exit_status_of : Result (List ℕ) Fault → ℕ
+exit_status_of (Ok text) = 0
+exit_status_of (Err fault) = fault_status fault
 
 -- its line was written, and nothing else, and its status is answered
 abbrev pub Writes : Result (List ℕ) Fault → Option (List ℕ) → Option (List ℕ) → ℕ → Type 0
-Writes answer before after status = Appends before after (output_of answer) × (status ≡ status_of answer)
+Writes answer before after status = Appends before after (output_of answer) × (status ≡ exit_status_of answer)
 
 -- the status that is due, or 1 where the output failed
 abbrev pub AnswersStatus : {T : Type 0} → CountedValue T → CountedValue T → ℕ → ℕ → Type 0

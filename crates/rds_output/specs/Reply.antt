@@ -11,14 +11,14 @@ use Rattle.rds_output.specs.declared.reply.Reply.{Reply}
 use Rattle.rds_output.specs.declared.reply.Reply.TheVariants.{Done, Edited, Asked, Answered, Taken, Shown, Refused, RefusedLine}
 
 -- a dot as the array of its replica's name and its number there, or null
-abbrev pub dot_text : Option (List ℕ × ℕ) → List ℕ
-dot_text None = codes "null"
-dot_text (Some dot) = codes "[\"" ++ dot.0 ++ codes "\"," ++ decimal dot.1 ++ codes "]"
+abbrev pub named_dot_text : Option (List ℕ × ℕ) → List ℕ
+named_dot_text None = codes "null"
+named_dot_text (Some dot) = codes "[\"" ++ dot.0 ++ codes "\"," ++ decimal dot.1 ++ codes "]"
 
 abbrev pub reply_text : Reply → List ℕ
 reply_text Done = codes "{\"ok\":true}"
 reply_text (Edited dot killed) =
-    codes "{\"dot\":" ++ dot_text dot ++ codes ",\"killed\":" ++ decimal killed ++ codes "}"
+    codes "{\"dot\":" ++ named_dot_text dot ++ codes ",\"killed\":" ++ decimal killed ++ codes "}"
 reply_text (Asked number) = codes "{\"ask\":" ++ decimal number ++ codes "}"
 reply_text (Answered number components) =
     codes "{\"delta\":" ++ (decimal number ++ (codes ",\"components\":" ++ (decimal components ++ codes "}")))
@@ -35,12 +35,12 @@ is_refusal (RefusedLine line fault) = true
 is_refusal _ = false
 
 -- the name of a dot's replica, and the dot's number there
-abbrev pub named_in : RosterValue → Dot → Option (List ℕ × ℕ)
-named_in roster dot = option_map (λ name. (name, dot.seq)) (slice_get roster.names dot.replica)
+abbrev pub named_dot : RosterValue → Dot → Option (List ℕ × ℕ)
+named_dot roster dot = option_map (λ name. (name, dot.seq)) (slice_get roster.names dot.replica)
 
 -- an edit that made such a dot live, and killed so many
 abbrev pub edit_reply : RosterValue → Option Dot → ℕ → Reply
-edit_reply roster dot killed = Edited (option_and_then (named_in roster) dot) killed
+edit_reply roster dot killed = Edited (option_and_then (named_dot roster) dot) killed
 
 -- a reply and its newline
 abbrev pub reply_line : Reply → List ℕ

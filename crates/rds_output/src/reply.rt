@@ -4,7 +4,7 @@ ghost use Rattle.std.specs.Io.KnownBytes.{Appends};
 ghost use Rattle.rds_names.specs.declared.fault.Fault.TheVariants.{Device};
 ghost use Rattle.rds_keep.specs.Counted.{one_more};
 ghost use Rattle.rds_keep.specs.Parts.{AppendsPart};
-ghost use Rattle.rds_output.specs.Reply.{edit_reply, is_refusal, named_in, reply_line};
+ghost use Rattle.rds_output.specs.Reply.{edit_reply, is_refusal, named_dot, reply_line};
 
 use crate::digits::Digits;
 use rds_dots::Dot;
@@ -169,7 +169,7 @@ fn write_refused_line<W: Write>(
 
 // The name of the dot's replica, and the dot's number there.
 fn named_in(roster: &Roster, dot: Option<Dot>) -> Option<(Name, u64)>
-    ensures { result ≡ option_and_then (named_in roster.now) dot }
+    ensures { result ≡ option_and_then (named_dot roster.now) dot }
 {
     let dot = dot?;
     let name = roster.name_of(dot.replica)?;

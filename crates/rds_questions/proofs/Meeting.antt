@@ -23,7 +23,7 @@ use Rattle.rds_codec.proofs.Whole.{text_again}
 use Rattle.rds_answers.specs.Checked.{certificate_of, least_state}
 use Rattle.rds_answers.proofs.Checks.{delta_is}
 use Rattle.rds_answers.proofs.Tellings.{answer_is, digest_is}
-use Rattle.rds_questions.specs.Laws.{DeltasAreLeast, HaveOneResponse, IsAnswered, IsBrought, ReplicasAskWell}
+use Rattle.rds_questions.specs.Laws.{DeltasAreLeast, HaveOneResponse, IsAnswered, BringsLacking, ReplicasAskWell}
 use Rattle.rds_questions.specs.Questions.{QuestionValue, askers_of}
 use Rattle.rds_questions.specs.Receiving.{MayTalk}
 use Rattle.rds_questions.specs.Responding.{hello_to}
@@ -99,7 +99,7 @@ module _ (q : QuestionValue) (peer : ReplicaValue) (r : ResponseValue) (h : IsAn
   certified : IsCertified q.digest r.answer
   certified = (subst (λ (c : Coordinates). IsAbove c (ranks_in q.digest)) (sym answers.delta) (least_above (coordinates peer.state) (ranks_in q.digest)), answers.certificate)
 
-  pub is_brought : IsBrought q peer r
+  pub is_brought : BringsLacking q peer r
   is_brought =
       let n = askers_of q in
       record {

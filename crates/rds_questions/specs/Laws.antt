@@ -38,7 +38,7 @@ pub record IsAnswered (q : QuestionValue) (peer : ReplicaValue) (r : ResponseVal
   pub within : length (response_text r) ≤ LIMIT
 
 -- it is read again and judged good, and brings what the peer has and the one that asked lacks, and the longer roster
-pub record IsBrought (q : QuestionValue) (peer : ReplicaValue) (r : ResponseValue) : Type 0 where
+pub record BringsLacking (q : QuestionValue) (peer : ReplicaValue) (r : ResponseValue) : Type 0 where
   pub again : all_of (response_at (askers_of q)) (response_text r) ≡ Ok r
   pub received : ReceiveGives q r (Ok (received_of q r))
   pub delta : coordinates (received_of q r).delta ≡ least (coordinates peer.state) (ranks_in q.digest)
@@ -46,7 +46,7 @@ pub record IsBrought (q : QuestionValue) (peer : ReplicaValue) (r : ResponseValu
 
 abbrev pub ResponsesAreReceived : Type 0
 ResponsesAreReceived = (q : QuestionValue) (peer : ReplicaValue) (r : ResponseValue) → IsAnswered q peer r
-    → IsBrought q peer r
+    → BringsLacking q peer r
 
 -- the same of what a replica with a text asks, in terms of what the two hold
 abbrev pub DeltasAreLeast : Type 0

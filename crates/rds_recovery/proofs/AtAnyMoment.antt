@@ -4,7 +4,7 @@ use Rattle.rds_state.specs.Fits.{ReplicaValue}
 use Rattle.rds_journal.specs.Appending.{KeepsFront}
 use Rattle.rds_journal.proofs.Moments.{weaker}
 use Rattle.rds_keep.specs.Kept.{IsFile, IsStored}
-use Rattle.rds_recovery.specs.AtAnyMoment.{HasAllOf, IsSafe, SafeIsRead, SafeIsWithin, StaysSafe, SyncedIsSafe}
+use Rattle.rds_recovery.specs.AtAnyMoment.{IsReadWithAllOf, IsSafe, SafeIsRead, SafeIsWithin, StaysSafe, SyncedIsSafe}
 use Rattle.rds_recovery.proofs.ReadingOn.{ends_on_grown, file_on, whole_front}
 use Rattle.rds_recovery.proofs.WholeWithin.{whole_within}
 
@@ -20,7 +20,7 @@ synced_safe may_leave file v layout only stored =
     }
 
 -- what begins with a whole file is read on from there
-begins_read : (v : ReplicaValue) (bytes : List ℕ) (may_leave : List ℕ → Type 0) → IsSafe v bytes may_leave → (c : List ℕ) → take (length bytes) c ≡ bytes → HasAllOf v c
+begins_read : (v : ReplicaValue) (bytes : List ℕ) (may_leave : List ℕ → Type 0) → IsSafe v bytes may_leave → (c : List ℕ) → take (length bytes) c ≡ bytes → IsReadWithAllOf v c
 begins_read v bytes may_leave safe c begins found holds =
     let parts : c ≡ bytes ++ drop (length bytes) c = sym (take-append-drop (length bytes) c) ∙ ap (λ (t : List ℕ). t ++ drop (length bytes) c) begins in
     ends_on_grown v (drop (length bytes) c) found
@@ -42,7 +42,7 @@ still_begins bytes old new end most far begins keeps =
 module _ {D : Type 0} (moment : D → ℕ) (left_since : D → ℕ → List ℕ → Type 0) (may_leave : D → List ℕ → Type 0) (counts_now : (d : D) (t : ℕ) (c : List ℕ) → t ≤ moment d → may_leave d c → left_since d t c) where
   pub stays_safe : (old new : D) → StaysSafe moment left_since may_leave old new
   stays_safe old new v bytes end most safe far leaves = (
-    weaker moment left_since old new Left (HasAllOf v) leaves (λ c from. begins_read v bytes (may_leave old) safe c (begins c from)),
+    weaker moment left_since old new Left (IsReadWithAllOf v) leaves (λ c from. begins_read v bytes (may_leave old) safe c (begins c from)),
     record {
       format = safe.format;
       snapshot = safe.snapshot;

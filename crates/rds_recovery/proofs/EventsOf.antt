@@ -19,7 +19,7 @@ use Rattle.rds_recovery.specs.Events.{
   LeavesNoOther,
   edit_events,
 }
-use Rattle.rds_recovery.specs.Recovery.{Append, Holds, last_left}
+use Rattle.rds_recovery.specs.Recovery.{Append, FileHolds, last_left}
 use Rattle.rds_recovery.proofs.BrokenOff.{none_made_up}
 use Rattle.rds_recovery.proofs.ReadingOn.{hold_one}
 
@@ -38,10 +38,10 @@ module _ (w : World) (file : List ℕ) (a : Append) (events : List Happening) (k
   ends : (b : Bool) → a.is_kept ≡ b → (ending : List Happening) (v : ReplicaValue) → IsEnding b a.change.before.own ending → LeadsTo w (Of (Crash a.change.before.own) ∷ (events ++ ending)) v → v.own ≡ a.change.before.own → Ends w a events v
   ends b e ending v is_ending its same = record { ending = ending; is_ending = subst (λ (k : Bool). IsEnding k a.change.before.own ending) (sym e) is_ending; leads = its; own = same }
 
-  is_after : (v : ReplicaValue) → Holds a.left v → Holds a.left a.change.after → Ends w a events a.change.after → Ends w a events v
+  is_after : (v : ReplicaValue) → FileHolds a.left v → FileHolds a.left a.change.after → Ends w a events a.change.after → Ends w a events v
   is_after v read holds end = subst (Ends w a events) (hold_one a.left a.change.after v holds read) end
 
-  by_kept : (b : Bool) → a.is_kept ≡ b → LeavesNoOther b file a → (v : ReplicaValue) → Holds a.left v → Ends w a events v
+  by_kept : (b : Bool) → a.is_kept ≡ b → LeavesNoOther b file a → (v : ReplicaValue) → FileHolds a.left v → Ends w a events v
   by_kept true e leaves v read =
       is_after v read leaves (ends true e (Of (Save a.change.before.own) ∷ []) a.change.after refl (saved w a.change.before a.change.after events kept same_own made) same_own)
   by_kept false e leaves v read = elim leaves [
@@ -56,7 +56,7 @@ module _ (w : World) (file : List ℕ) (a : Append) (events : List Happening) (k
       there : Ends w a events a.change.after
       there = ends false e (Of (Save a.change.before.own) ∷ Of (Crash a.change.before.own) ∷ []) a.change.after (inr refl) (found w a.change.before a.change.after events kept same_own made) same_own
 
-ends_so : (w : World) (file : List ℕ) (a : Append) (events : List Happening) (v : ReplicaValue) → IsKeptIn w a.change.before → IsChange file a → MakeInMemory (after w (Crash a.change.before.own)) events a.change.after → Holds a.left v → Ends w a events v
+ends_so : (w : World) (file : List ℕ) (a : Append) (events : List Happening) (v : ReplicaValue) → IsKeptIn w a.change.before → IsChange file a → MakeInMemory (after w (Crash a.change.before.own)) events a.change.after → FileHolds a.left v → Ends w a events v
 ends_so w file a events v kept is made read = by_kept w file a events kept is made a.is_kept refl is.leaves v read
 
 pub change_is_events : (w : World) (file : List ℕ) (a : Append) → ChangeIsEvents w file a
@@ -70,7 +70,7 @@ record Has (w : World) (a : Append) (v : ReplicaValue) : Type 0 where
   leads : LeadsTo w events v
   own : v.own ≡ a.change.before.own
 
-has : (w : World) (file : List ℕ) (a : Append) (v : ReplicaValue) → IsKeptIn w a.change.before → IsEdit file a → Holds a.left v → Has w a v
+has : (w : World) (file : List ℕ) (a : Append) (v : ReplicaValue) → IsKeptIn w a.change.before → IsEdit file a → FileHolds a.left v → Has w a v
 has w file a v kept is read =
     let own = a.change.before.own in
     let end = ends_so w file a (edits own is.commands) v kept is.change (edits_make w a.change.before is.commands a.change.after kept is.made) read in
@@ -86,7 +86,7 @@ edit_is_events w file a v kept is read = (let h = has w file a v kept is read in
 
 -- ---- one after the other
 
-read_first : (file : List ℕ) (appends : List Append) (v : ReplicaValue) → AreEdits file appends → Holds (last_left file appends) v → (u : ReplicaValue) × Holds file u
+read_first : (file : List ℕ) (appends : List Append) (v : ReplicaValue) → AreEdits file appends → FileHolds (last_left file appends) v → (u : ReplicaValue) × FileHolds file u
 read_first file [] v are read = (v, read)
 read_first file (a ∷ appends) v are read = (a.change.before, (a.layout, are.0.change.read))
 
@@ -103,7 +103,7 @@ two_lists w es fs u v own first later = record {
   others = λ r other. ap (λ (x : World). x.kept r) (run_on es fs w) ∙ later.others r other ∙ first.others r (λ same. other (same ∙ sym own));
 }
 
-all_are : (w : World) (file : List ℕ) (appends : List Append) (first v : ReplicaValue) → IsKeptIn w first → Holds file first → AreEdits file appends → Holds (last_left file appends) v → HasAll w appends first.own v
+all_are : (w : World) (file : List ℕ) (appends : List Append) (first v : ReplicaValue) → IsKeptIn w first → FileHolds file first → AreEdits file appends → FileHolds (last_left file appends) v → HasAll w appends first.own v
 all_are w file [] first v kept holds are read =
     subst (HasAll w [] first.own) (hold_one file first v holds read) (record { events = []; are = refl; same = refl; leads = record { accepted = tt; kept = kept; others = λ r other. refl } })
 all_are w file (a ∷ appends) first v kept holds are read =

@@ -2,11 +2,11 @@
 use Rattle.std.proofs.Common.{◌≡◌, ℕ, Bool, true, false, List, [], ◌∷◌, drop, subst, ⊎_elim}
 use Rattle.std.specs.List.{AllByRecursion}
 use Rattle.rds_state.specs.Fits.{ReplicaValue}
-use Rattle.rds_recovery.specs.Recovery.{Append, AreAppends, Holds, IsAppend, IsGrown, KeepsUpTo, Leaves, NoneIsLost, last_left}
+use Rattle.rds_recovery.specs.Recovery.{Append, AreAppends, FileHolds, IsAppend, IsGrown, KeepsUpTo, LeavesBehind, NoneIsLost, last_left}
 use Rattle.rds_recovery.proofs.ReadingOn.{changed_grown, ends_on_grown, grown_on, hold_one, not_grown, read_on}
 
 -- what is read of the first file, where there is one that is read at the end
-read_first : (file : List ℕ) (appends : List Append) (found : ReplicaValue) → AreAppends file appends → Holds (last_left file appends) found → (v : ReplicaValue) × Holds file v
+read_first : (file : List ℕ) (appends : List Append) (found : ReplicaValue) → AreAppends file appends → FileHolds (last_left file appends) found → (v : ReplicaValue) × FileHolds file v
 read_first file [] found are read = (found, read)
 read_first file (a ∷ appends) found are read = (a.change.before, (a.layout, are.0.read))
 
@@ -14,22 +14,22 @@ record Goes (a : Append) (kept : Bool) (next : ReplicaValue) : Type 0 where
   before : IsGrown a.change.before next
   after : kept ≡ true → IsGrown a.change.after next
 
-one_on : (kept : Bool) (file : List ℕ) (a : Append) (next : ReplicaValue) → IsAppend file a → Leaves kept file a → Holds a.left next → Goes a kept next
+one_on : (kept : Bool) (file : List ℕ) (a : Append) (next : ReplicaValue) → IsAppend file a → LeavesBehind kept file a → FileHolds a.left next → Goes a kept next
 one_on kept file a next is leaves read = by kept leaves
   where
     grown : IsGrown a.change.before a.change.after
     grown = changed_grown a.change.before is.delta a.change.after is.changed
 
-    done : Holds a.left a.change.after → IsGrown a.change.after next
+    done : FileHolds a.left a.change.after → IsGrown a.change.after next
     done holds = subst (IsGrown a.change.after) (hold_one a.left a.change.after next holds read) (not_grown a.change.after)
 
-    all : Holds a.left a.change.after → IsGrown a.change.before next
+    all : FileHolds a.left a.change.after → IsGrown a.change.before next
     all holds = grown_on a.change.before a.change.after next grown (done holds)
 
     front : KeepsUpTo a.layout.whole file a.left → IsGrown a.change.before next
     front keeps = ends_on_grown a.change.before (drop a.layout.whole a.left) next (read_on file a.left a.change.before next a.layout is.read keeps read)
 
-    by : (k : Bool) → Leaves k file a → Goes a k next
+    by : (k : Bool) → LeavesBehind k file a → Goes a k next
     by true holds = record { before = all holds; after = λ e. done holds }
     by false left = record { before = ⊎_elim front all left; after = λ e. absurd cc }
 

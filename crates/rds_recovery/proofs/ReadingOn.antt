@@ -19,7 +19,7 @@ use Rattle.rds_keep.proofs.Chains.{ends_after}
 use Rattle.rds_keep.proofs.ChangeTexts.{begins_itself}
 use Rattle.rds_keep.proofs.Files.{ends_from, stored_either, stored_first, stored_rest}
 use Rattle.rds_keep.proofs.SumTexts.{no_sum_first, sum_is_payload}
-use Rattle.rds_recovery.specs.Recovery.{Holds, HoldsOne, IsGrown, KeepsUpTo}
+use Rattle.rds_recovery.specs.Recovery.{FileHolds, HoldsOne, IsGrown, KeepsUpTo}
 
 -- ---- the same replica later on
 
@@ -103,7 +103,7 @@ pub whole_front : (file : List ℕ) (v : ReplicaValue) (layout : Layout) → (st
 whole_front file v layout stored = ap (take layout.whole) stored.parts ∙ take_at stored.whole stored.torn layout.whole (sym stored.size)
 
 -- up to there the other is the same: it is read on from there
-pub read_on : (file left : List ℕ) (v w : ReplicaValue) (layout : Layout) → IsStored file v layout → KeepsUpTo layout.whole file left → Holds left w → EndsOn v (drop layout.whole left) w
+pub read_on : (file left : List ℕ) (v w : ReplicaValue) (layout : Layout) → IsStored file v layout → KeepsUpTo layout.whole file left → FileHolds left w → EndsOn v (drop layout.whole left) w
 read_on file left v w layout stored keeps read =
     let front : take layout.whole left ≡ stored.whole = keeps ∙ whole_front file v layout stored in
     let parts : left ≡ stored.whole ++ drop layout.whole left = sym (take-append-drop layout.whole left) ∙ ap (λ (t : List ℕ). t ++ drop layout.whole left) front in

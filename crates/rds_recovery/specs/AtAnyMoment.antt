@@ -6,11 +6,11 @@ use Rattle.rds_journal.specs.Appending.{KeepsFront}
 use Rattle.rds_journal.specs.Device.{LeavesOnly, Only}
 use Rattle.rds_keep.specs.Kept.{IsFile, IsStored}
 use Rattle.rds_keep.specs.declared.layout.Layout.{Layout}
-use Rattle.rds_recovery.specs.Recovery.{Holds, IsGrown}
+use Rattle.rds_recovery.specs.Recovery.{FileHolds, IsGrown}
 
 -- what is read of the file has all that the replica has
-abbrev pub HasAllOf : ReplicaValue → List ℕ → Type 0
-HasAllOf v file = (found : ReplicaValue) → Holds file found → IsGrown v found
+abbrev pub IsReadWithAllOf : ReplicaValue → List ℕ → Type 0
+IsReadWithAllOf v file = (found : ReplicaValue) → FileHolds file found → IsGrown v found
 
 -- whatever a crash leaves begins with these bytes, which are a whole file of the replica
 pub record IsSafe (v : ReplicaValue) (bytes : List ℕ) (may_leave : List ℕ → Type 0) : Type 0 where
@@ -28,7 +28,7 @@ SyncedIsSafe may_leave =
 -- a crash then leaves what has all of it
 abbrev pub SafeIsRead : (List ℕ → Type 0) → Type 0
 SafeIsRead may_leave =
-    (v : ReplicaValue) (bytes : List ℕ) → IsSafe v bytes may_leave → (c : List ℕ) → may_leave c → HasAllOf v c
+    (v : ReplicaValue) (bytes : List ℕ) → IsSafe v bytes may_leave → (c : List ℕ) → may_leave c → IsReadWithAllOf v c
 
 -- the whole records of a file that begins with these bytes end no further to the front
 abbrev pub SafeIsWithin : (List ℕ → Type 0) → Type 0
@@ -41,4 +41,4 @@ abbrev pub StaysSafe : {D : Type 0} → (D → ℕ) → (D → ℕ → List ℕ 
 StaysSafe moment left_since may_leave old new =
     (v : ReplicaValue) (bytes : List ℕ) (end most : ℕ) → IsSafe v bytes (may_leave old) → length bytes ≤ end
     → LeavesOnly moment left_since old new (λ c. (d : List ℕ) × may_leave old d × KeepsFront end most d c)
-    → LeavesOnly moment left_since old new (HasAllOf v) × IsSafe v bytes (may_leave new)
+    → LeavesOnly moment left_since old new (IsReadWithAllOf v) × IsSafe v bytes (may_leave new)

@@ -7,14 +7,14 @@ use Rattle.rds_world.specs.World.{World, Happening, Of, after}
 use Rattle.rds_world.specs.declared.event.Event.TheVariants.{Crash, Save}
 use Rattle.rds_keep.specs.Changed.{IsRecordOf}
 use Rattle.rds_keep.specs.Kept.{IsStored}
-use Rattle.rds_recovery.specs.Recovery.{Append, Holds, IsBrokenOff, last_left}
+use Rattle.rds_recovery.specs.Recovery.{Append, FileHolds, IsBrokenOff, last_left}
 
 -- ---- changes
 
 -- what is there then: as an append leaves it, and no other record came about
 abbrev pub LeavesNoOther : Bool → List ℕ → Append → Type 0
-LeavesNoOther true file a = Holds a.left a.change.after
-LeavesNoOther false file a = IsBrokenOff file a.layout.whole a.change.bytes a.left ⊎ Holds a.left a.change.after
+LeavesNoOther true file a = FileHolds a.left a.change.after
+LeavesNoOther false file a = IsBrokenOff file a.layout.whole a.change.bytes a.left ⊎ FileHolds a.left a.change.after
 
 -- a file was read, and a change of its replica appended
 pub record IsChange (file : List ℕ) (a : Append) : Type 0 where
@@ -31,7 +31,7 @@ IsEnding false own events = (events ≡ Of (Crash own) ∷ []) ⊎ (events ≡ O
 abbrev pub ChangeIsEvents : World → List ℕ → Append → Type 0
 ChangeIsEvents w file a =
     (events : List Happening) (found : ReplicaValue) → IsKeptIn w a.change.before → IsChange file a
-    → MakeInMemory (after w (Crash a.change.before.own)) events a.change.after → Holds a.left found
+    → MakeInMemory (after w (Crash a.change.before.own)) events a.change.after → FileHolds a.left found
     → (ending : List Happening) × IsEnding a.is_kept a.change.before.own ending
     × LeadsTo w (Of (Crash a.change.before.own) ∷ (events ++ ending)) found
 
@@ -68,12 +68,12 @@ AreEventsOfAll (a ∷ appends) events =
 -- what is read behind one edit
 abbrev pub EditIsEvents : World → List ℕ → Append → Type 0
 EditIsEvents w file a =
-    (found : ReplicaValue) → IsKeptIn w a.change.before → IsEdit file a → Holds a.left found
+    (found : ReplicaValue) → IsKeptIn w a.change.before → IsEdit file a → FileHolds a.left found
     → (events : List Happening) × AreEventsOf a events × LeadsTo w events found
 
 -- and behind all of them
 abbrev pub EditsAreEvents : World → List ℕ → List Append → Type 0
 EditsAreEvents w file appends =
-    (first found : ReplicaValue) → IsKeptIn w first → Holds file first → AreEdits file appends
-    → Holds (last_left file appends) found
+    (first found : ReplicaValue) → IsKeptIn w first → FileHolds file first → AreEdits file appends
+    → FileHolds (last_left file appends) found
     → (events : List Happening) × AreEventsOfAll appends events × LeadsTo w events found

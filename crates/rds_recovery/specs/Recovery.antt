@@ -13,12 +13,12 @@ use Rattle.rds_keep.specs.Kept.{IsStored}
 use Rattle.rds_keep.specs.declared.layout.Layout.{Layout}
 
 -- the file is read as this replica
-abbrev pub Holds : List ℕ → ReplicaValue → Type 0
-Holds file v = (layout : Layout) × IsStored file v layout
+abbrev pub FileHolds : List ℕ → ReplicaValue → Type 0
+FileHolds file v = (layout : Layout) × IsStored file v layout
 
 -- a file is read as one replica
 abbrev pub HoldsOne : List ℕ → Type 0
-HoldsOne file = (v w : ReplicaValue) → Holds file v → Holds file w → v ≡ w
+HoldsOne file = (v w : ReplicaValue) → FileHolds file v → FileHolds file w → v ≡ w
 
 -- the same replica later on: it has all of the state, and there may be names behind its own
 pub record IsGrown (old new : ReplicaValue) : Type 0 where
@@ -41,16 +41,16 @@ pub record Append : Type 0 where
 
 -- What is there: where it was acknowledged, the replica after the change. Else what a crash leaves, which is up to the
 -- end of the whole records what was there; or the replica after the change, though that isn't known to last.
-abbrev pub Leaves : Bool → List ℕ → Append → Type 0
-Leaves true file a = Holds a.left a.change.after
-Leaves false file a = KeepsUpTo a.layout.whole file a.left ⊎ Holds a.left a.change.after
+abbrev pub LeavesBehind : Bool → List ℕ → Append → Type 0
+LeavesBehind true file a = FileHolds a.left a.change.after
+LeavesBehind false file a = KeepsUpTo a.layout.whole file a.left ⊎ FileHolds a.left a.change.after
 
 -- a file was read, and a change of its replica appended
 pub record IsAppend (file : List ℕ) (a : Append) : Type 0 where
   pub read : IsStored file a.change.before a.layout
   pub delta : ChangeValue
   pub changed : IsChanged a.change.before delta a.change.after
-  pub leaves : Leaves a.is_kept file a
+  pub leaves : LeavesBehind a.is_kept file a
 
 -- each to what the one before it left
 abbrev pub AreAppends : List ℕ → List Append → Type 0
@@ -62,15 +62,15 @@ last_left file [] = file
 last_left file (a ∷ appends) = last_left a.left appends
 
 -- it has all that was there at first, and all that was acknowledged
-pub record HasAll (first : ReplicaValue) (appends : List Append) (found : ReplicaValue) : Type 0 where
+pub record HasAcknowledged (first : ReplicaValue) (appends : List Append) (found : ReplicaValue) : Type 0 where
   pub before : IsGrown first found
   pub acknowledged : AllByRecursion (λ a. a.is_kept ≡ true → IsGrown a.change.after found) appends
 
 -- what is read at the end
 abbrev pub NoneIsLost : List ℕ → List Append → Type 0
 NoneIsLost file appends =
-    (first found : ReplicaValue) → Holds file first → AreAppends file appends → Holds (last_left file appends) found
-    → HasAll first appends found
+    (first found : ReplicaValue) → FileHolds file first → AreAppends file appends → FileHolds (last_left file appends) found
+    → HasAcknowledged first appends found
 
 -- ---- one change that was broken off
 
@@ -89,7 +89,7 @@ pub record IsBrokenOff (file : List ℕ) (end : ℕ) (record_bytes left : List �
 abbrev pub NoneIsMadeUp : List ℕ → ChangedValue → Layout → List ℕ → Type 0
 NoneIsMadeUp file change layout left =
     (found : ReplicaValue) → IsStored file change.before layout → IsRecordOf change
-    → IsBrokenOff file layout.whole change.bytes left → Holds left found
+    → IsBrokenOff file layout.whole change.bytes left → FileHolds left found
     → (found ≡ change.before) ⊎ (found ≡ change.after)
 
 -- No other record comes about where bytes come to the disk in their order: then a beginning of what stood there is left,

@@ -22,10 +22,10 @@ use Rattle.rds_session.specs.declared.kinds.ByeCode.TheVariants as byes
 use Rattle.rds_session.specs.declared.kinds.MessageKind.{MessageKind}
 use Rattle.rds_session.specs.declared.kinds.MessageKind.TheVariants as kinds
 use Rattle.rds_answers.specs.Hashes.{digest_hash, hash_in}
-use Rattle.rds_session.specs.Marked.{mark_in, same_mark, told_mark}
+use Rattle.rds_session.specs.Marked.{mark_read, same_mark, told_mark}
 use Rattle.rds_session.specs.Messages.{kind_of, bye_of}
 use Rattle.rds_session.specs.Wants.{heard_behind}
-use Rattle.rds_session.specs.Versions.{as_hello, format_of}
+use Rattle.rds_session.specs.Versions.{as_hello, delta_format}
 use Rattle.rds_session.specs.Judging.{Awaited, ForHello, ForDigest, ForWhole, ForDelta, ForBye, Said, Greets, Learns, Shares, Misses, Receives, Finishes, Forks, verdict, bye_came, bye_judged, code_came, plain_came, body_came, hash_came, hash_judged, hash_said, hello_came, kind_came, is_done, mark_judged, version_came, version_with, waits_for_hash, waits_for_mark, member_judged, delta_judged, read_then, one_begins, peer_of, replicas_of}
 
 abbrev pub IsActFor : Awaited → Said → Type 0
@@ -113,8 +113,8 @@ plain_suits turn code (b ∷ rest) = record { fits = tt }
 code_suits : (turn : Awaited) (code : Option ByeCode) (rest : List ℕ) → Suits turn (code_came turn code rest)
 code_suits turn None rest = record { fits = tt }
 code_suits turn (Some code) rest =
-    if_suits turn (waits_for_mark turn && is_done code) (read_then (mark_in rest) (mark_judged turn)) (plain_came turn code rest)
-    (read_suits turn (mark_in rest) (mark_judged turn) (mark_suits turn))
+    if_suits turn (waits_for_mark turn && is_done code) (read_then (mark_read rest) (mark_judged turn)) (plain_came turn code rest)
+    (read_suits turn (mark_read rest) (mark_judged turn) (mark_suits turn))
     (plain_suits turn code rest)
 
 bye_suits : (turn : Awaited) (body : List ℕ) → Suits turn (bye_came turn body)
@@ -169,7 +169,7 @@ body_suits kept kinds.Digest (ForBye mark) body = record { fits = tt }
 body_suits kept kinds.Delta (ForHello side) body = record { fits = tt }
 body_suits kept kinds.Delta (ForDigest q) body = record { fits = tt }
 body_suits kept kinds.Delta (ForWhole q) body = record { fits = tt }
-body_suits kept kinds.Delta (ForDelta q g) body = read_suits (ForDelta q g) (answer_in (format_of q.version) (replicas_of kept q.roster) body) (delta_judged kept q) (delta_suits q g kept)
+body_suits kept kinds.Delta (ForDelta q g) body = read_suits (ForDelta q g) (answer_in (delta_format q.version) (replicas_of kept q.roster) body) (delta_judged kept q) (delta_suits q g kept)
 body_suits kept kinds.Delta (ForBye mark) body = record { fits = tt }
 
 kind_suits : (kept : ReplicaValue) (turn : Awaited) (kind : Option MessageKind) (body : List ℕ) → Suits turn (kind_came kept turn kind body)

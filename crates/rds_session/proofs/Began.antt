@@ -21,8 +21,8 @@ use Rattle.rds_session.specs.Coming.{ComingValue}
 use Rattle.rds_session.specs.Contents.{ContentValue, OfHello, OfDigest, OfHash, OfDelta, OfBye, OfMark, body_read, code_read, expects_hash, expects_mark, hash_read, kind_read, message_read, read_as, version_read}
 use Rattle.rds_answers.specs.Hashes.{hash_in}
 use Rattle.rds_session.specs.Judging.{is_done, version_with}
-use Rattle.rds_session.specs.Marked.{mark_in}
-use Rattle.rds_session.specs.Messages.{bye_of, kind_of, number_of}
+use Rattle.rds_session.specs.Marked.{mark_read}
+use Rattle.rds_session.specs.Messages.{bye_of, kind_of, type_byte}
 use Rattle.rds_session.specs.Versions.{as_hello, says_briefs}
 use Rattle.rds_session.specs.declared.content.Expected.{Expected}
 use Rattle.rds_session.specs.declared.content.Expected.TheVariants as expecteds
@@ -82,33 +82,33 @@ hash_of_no_kind expected n is none more =
 
 -- ---- the next bytes
 
-pub other_version_refused : (side : Side) (run : List ℕ) → 1 ≤ length run → version_with side (get_or run 0 0) ≡ None → IsRefusedSo (expecteds.Hello side) (number_of kinds.Hello ∷ run) WrongVersion
+pub other_version_refused : (side : Side) (run : List ℕ) → 1 ≤ length run → version_with side (get_or run 0 0) ≡ None → IsRefusedSo (expecteds.Hello side) (type_byte kinds.Hello ∷ run) WrongVersion
 unfolding message_read
 other_version_refused side [] some other more = absurd (omega arith)
 other_version_refused side (byte ∷ rest) some other more = ap (λ (v : Option Version). version_read v (rest ++ more)) other
 
-pub no_code_refused : (expected : Expected) (run : List ℕ) → 1 ≤ length run → bye_of (get_or run 0 0) ≡ None → IsRefusedSo expected (number_of kinds.Bye ∷ run) Bad
+pub no_code_refused : (expected : Expected) (run : List ℕ) → 1 ≤ length run → bye_of (get_or run 0 0) ≡ None → IsRefusedSo expected (type_byte kinds.Bye ∷ run) Bad
 unfolding message_read
 no_code_refused expected [] some is more = absurd (omega arith)
 no_code_refused expected (b ∷ rest) some is more = ap (λ (code : Option ByeCode). code_read (expects_mark expected) code (rest ++ more)) is
 
 pub extra_refused : (expected : Expected) (code : ByeCode) (b : ℕ) (run : List ℕ) → bye_of b ≡ Some code → expects_mark expected && is_done code ≡ false → 1 ≤ length run
-    → IsRefusedSo expected (number_of kinds.Bye ∷ b ∷ run) Extra
+    → IsRefusedSo expected (type_byte kinds.Bye ∷ b ∷ run) Extra
 unfolding message_read
 extra_refused expected code b [] is plain some more = absurd (omega arith)
 extra_refused expected code b (x ∷ rest) is plain some more =
     ap (λ (c : Option ByeCode). code_read (expects_mark expected) c (x ∷ (rest ++ more))) is
-    ∙ ap (λ (marked : Bool). cond marked (read_as OfMark (mark_in (x ∷ (rest ++ more)))) (Err Extra)) plain
+    ∙ ap (λ (marked : Bool). cond marked (read_as OfMark (mark_read (x ∷ (rest ++ more)))) (Err Extra)) plain
 
 -- more than a mark is behind the code
-too_long : (bytes : List ℕ) → 16 < length bytes → mark_in bytes ≡ Err Extra
+too_long : (bytes : List ℕ) → 16 < length bytes → mark_read bytes ≡ Err Extra
 too_long bytes more =
     let not_short : ltb (length bytes) 16 ≡ false = le-ltb _ _ (omega (arith, more)) in
     let long : ltb 16 (length bytes) ≡ true = lt-ltb _ _ more in
     rw (not_short, long) refl
 
 pub mark_longer : (expected : Expected) (b : ℕ) (bytes : List ℕ) → bye_of b ≡ Some byes.Done → expects_mark expected ≡ true → 16 < length bytes
-    → IsRefusedSo expected (number_of kinds.Bye ∷ b ∷ bytes) Extra
+    → IsRefusedSo expected (type_byte kinds.Bye ∷ b ∷ bytes) Extra
 unfolding message_read
 mark_longer expected b bytes is marked long more =
     ap (λ (c : Option ByeCode). code_read (expects_mark expected) c (bytes ++ more)) is
@@ -122,7 +122,7 @@ too_long_hash bytes more =
     let long : ltb 32 (length bytes) ≡ true = lt-ltb _ _ more in
     rw (not_short, long) refl
 
-pub hash_longer : (expected : Expected) (bytes : List ℕ) → expects_hash expected ≡ true → 32 < length bytes → IsRefusedSo expected (number_of kinds.Hash ∷ bytes) Extra
+pub hash_longer : (expected : Expected) (bytes : List ℕ) → expects_hash expected ≡ true → 32 < length bytes → IsRefusedSo expected (type_byte kinds.Hash ∷ bytes) Extra
 unfolding message_read
 hash_longer expected bytes hashed long more =
     ap (λ (h : Bool). hash_read h (bytes ++ more)) hashed
@@ -154,29 +154,29 @@ said_as : {A : Type 0} (f : A → ContentValue) (r read : Result A Fault) → Re
 said_as f (Ok x) read is = ap (read_as f) is
 said_as f (Err e) read is = failed_as f e read is
 
-pub greeting_said : (expected : Expected) (side : Side) (came : List ℕ) → expected ≡ expecteds.Hello side → came ≡ number_of kinds.Hello ∷ [] → message_read expected came ≡ Err Cut
+pub greeting_said : (expected : Expected) (side : Side) (came : List ℕ) → expected ≡ expecteds.Hello side → came ≡ type_byte kinds.Hello ∷ [] → message_read expected came ≡ Err Cut
 unfolding message_read
 greeting_said expected side came turn is = rw (turn, is) refl
 
-pub parting_said : (expected : Expected) (came : List ℕ) → came ≡ number_of kinds.Bye ∷ [] → message_read expected came ≡ Err Cut
+pub parting_said : (expected : Expected) (came : List ℕ) → came ≡ type_byte kinds.Bye ∷ [] → message_read expected came ≡ Err Cut
 unfolding message_read
 parting_said expected came is = rw is refl
 
-pub bye_said : (expected : Expected) (came : List ℕ) (code : ByeCode) (b : ℕ) → came ≡ number_of kinds.Bye ∷ b ∷ [] → bye_of b ≡ Some code → expects_mark expected && is_done code ≡ false
+pub bye_said : (expected : Expected) (came : List ℕ) (code : ByeCode) (b : ℕ) → came ≡ type_byte kinds.Bye ∷ b ∷ [] → bye_of b ≡ Some code → expects_mark expected && is_done code ≡ false
     → message_read expected came ≡ Ok (OfBye code)
 unfolding message_read
 bye_said expected came code b is says plain =
-    rw is (ap (λ (c : Option ByeCode). code_read (expects_mark expected) c []) says ∙ ap (λ (marked : Bool). cond marked (read_as OfMark (mark_in [])) (Ok (OfBye code))) plain)
+    rw is (ap (λ (c : Option ByeCode). code_read (expects_mark expected) c []) says ∙ ap (λ (marked : Bool). cond marked (read_as OfMark (mark_read [])) (Ok (OfBye code))) plain)
 
-pub mark_said : (expected : Expected) (came bytes : List ℕ) (b : ℕ) (r : Result Mark Fault) → came ≡ number_of kinds.Bye ∷ b ∷ bytes → bye_of b ≡ Some byes.Done → expects_mark expected ≡ true
-    → Reads (λ v. v) r (mark_in bytes) → Reads OfMark r (message_read expected came)
+pub mark_said : (expected : Expected) (came bytes : List ℕ) (b : ℕ) (r : Result Mark Fault) → came ≡ type_byte kinds.Bye ∷ b ∷ bytes → bye_of b ≡ Some byes.Done → expects_mark expected ≡ true
+    → Reads (λ v. v) r (mark_read bytes) → Reads OfMark r (message_read expected came)
 unfolding message_read
 mark_said expected came bytes b r is says marked reads =
-    let read : message_read expected came ≡ read_as OfMark (mark_in bytes) =
+    let read : message_read expected came ≡ read_as OfMark (mark_read bytes) =
     rw is (ap (λ (c : Option ByeCode). code_read (expects_mark expected) c bytes) says ∙ ap (λ (m : Bool). code_read m (Some byes.Done) bytes) marked) in
-    subst (Reads OfMark r) (sym read) (said_as OfMark r (mark_in bytes) reads)
+    subst (Reads OfMark r) (sym read) (said_as OfMark r (mark_read bytes) reads)
 
-pub hash_said : (expected : Expected) (came bytes : List ℕ) (r : Result (List ℕ) Fault) → expects_hash expected ≡ true → came ≡ number_of kinds.Hash ∷ bytes
+pub hash_said : (expected : Expected) (came bytes : List ℕ) (r : Result (List ℕ) Fault) → expects_hash expected ≡ true → came ≡ type_byte kinds.Hash ∷ bytes
     → Reads (λ v. v) r (hash_in bytes) → Reads OfHash r (message_read expected came)
 unfolding message_read
 hash_said expected came bytes r hashed is reads =
@@ -187,7 +187,7 @@ pub refused_said : (expected : Expected) (came : List ℕ) (e : Fault) → IsRef
 refused_said expected came e refused = fails_so e (message_read expected came) (ap (message_read expected) (sym (append-nil came)) ∙ refused [])
 
 pub brief_said : (expected : Expected) (came bytes : List ℕ) (r : Result DigestValue Fault) (version : Version) (n : ℕ) (hashed : Bool) → length came ≤ LIMIT
-    → expected ≡ expecteds.Digest version n hashed → says_briefs version ≡ true → came ≡ number_of kinds.Digest ∷ bytes
+    → expected ≡ expecteds.Digest version n hashed → says_briefs version ≡ true → came ≡ type_byte kinds.Digest ∷ bytes
     → ReadsAll (brief_at n) bytes r → Reads OfDigest r (message_read expected came)
 unfolding message_read digest_in
 brief_said expected came bytes r version n hashed within turn briefs is reads =
@@ -195,7 +195,7 @@ brief_said expected came bytes r version n hashed within turn briefs is reads =
     rw (turn, is, briefs) said
 
 module _ (expected : Expected) (came : List ℕ) (within : length came ≤ LIMIT) (text : ComingValue) where
-  pub hello_said : (r : Result Hello Fault) (side : Side) (version : Version) (byte : ℕ) (rest : List ℕ) → expected ≡ expecteds.Hello side → came ≡ number_of kinds.Hello ∷ byte ∷ rest
+  pub hello_said : (r : Result Hello Fault) (side : Side) (version : Version) (byte : ℕ) (rest : List ℕ) → expected ≡ expecteds.Hello side → came ≡ type_byte kinds.Hello ∷ byte ∷ rest
       → version_with side byte ≡ Some version → text.came ≡ as_hello version rest
       → (length text.came ≤ LIMIT → Reads (λ v. v) r (all_of hello_at text.came)) → Reads (OfHello version) r (message_read expected came)
   unfolding message_read hello_in
@@ -206,14 +206,14 @@ module _ (expected : Expected) (came : List ℕ) (within : length came ≤ LIMIT
       subst (Reads (OfHello version) r) (sym read) said
 
   pub digest_said : (r : Result DigestValue Fault) (version : Version) (hashed : Bool) → expected ≡ expecteds.Digest version text.replicas hashed → says_briefs version ≡ false
-      → came ≡ number_of kinds.Digest ∷ text.came
+      → came ≡ type_byte kinds.Digest ∷ text.came
       → (length text.came ≤ LIMIT → Reads (λ v. v) r (all_of (digest_at text.replicas) text.came)) → Reads OfDigest r (message_read expected came)
   unfolding message_read digest_in
   digest_said r version hashed turn text-said is reads =
       let said = said_as OfDigest r (all_of (digest_at text.replicas) text.came) (reads (omega (arith, within, ap length is))) in
       rw (turn, is, text-said) said
 
-  pub delta_said : (r : Result AnswerValue Fault) → expected ≡ expecteds.Delta text.format text.replicas → came ≡ number_of kinds.Delta ∷ text.came
+  pub delta_said : (r : Result AnswerValue Fault) → expected ≡ expecteds.Delta text.format text.replicas → came ≡ type_byte kinds.Delta ∷ text.came
       → (length text.came ≤ LIMIT → Reads (λ v. v) r (all_of (answer_at_in text.format text.replicas) text.came)) → Reads OfDelta r (message_read expected came)
   unfolding message_read answer_in
   delta_said r turn is reads =

@@ -17,7 +17,7 @@ use Rattle.rds_session.specs.Received.{Delivery}
 use Rattle.rds_session.specs.Sending.{sending}
 use Rattle.rds_session.specs.Session.{Standing, Sent, fresh, failure, then_more, when_going, after_sending, after_said, after_verdict, message_comes, after_scan, stay, byte_comes, run, opening, after_opening, cut_off, Heard, Nothing, So_far, All_of, heard_more, course, after_input, after_step}
 use Rattle.rds_session.specs.Steps as steps
-use Rattle.rds_session.specs.Steps.{piece_of, ReceivedOnTheWay, TakesNoMemory, TakesMemory, RunsOut, Steps, Continues, IsOver}
+use Rattle.rds_session.specs.Steps.{piece_of, ReceivedOnTheWay, TakesNoMemory, StepTakesMemory, RunsOut, Steps, Continues, IsOver}
 use Rattle.rds_session.proofs.Accepting.{IsActFor, IsFor, accepted_suits}
 use Rattle.rds_session.proofs.Runs.{going_goes, over_stays, run_over, run-append, then_same}
 
@@ -335,7 +335,7 @@ took old new i before sent going none done =
 
 -- memory ran out in it
 pub gave_up : (old mid new : Standing) (i : Option (List ℕ)) (sent : List ℕ) → old.ended ≡ Going → ReceivedOnTheWay (after_opening old).0 (piece_of i) mid.received
-    → new ≡ failure mid Memory → steps.IsLastWord sent → TakesMemory old i → Steps old i new sent
+    → new ≡ failure mid Memory → steps.IsLastWord sent → StepTakesMemory old i → Steps old i new sent
 gave_up old mid new i sent going way is word takes =
     inr (going, ap (λ (s : Standing). s.ended) is, (way.0, way.1, way.2, ap (λ (s : Standing). s.received) is ∙ way.3), word, takes)
 
@@ -365,7 +365,7 @@ unfolding run
 at_first old i received e = ([], piece_of i, refl, e ∙ sym (opening_keeps old).0)
 
 -- a client begins, which takes memory
-pub client_begins : (s : Standing) (i : Option (List ℕ)) → (s.begun ≡ false) × (s.side ≢ Server) → TakesMemory s i
+pub client_begins : (s : Standing) (i : Option (List ℕ)) → (s.begun ≡ false) × (s.side ≢ Server) → StepTakesMemory s i
 client_begins s i first = λ nothing. elim nothing.1 [
   | inl begun ↦ absurd (let bad : false ≡ true = sym first.0 ∙ begun in cc)
   | inr server ↦ absurd (first.1 server)

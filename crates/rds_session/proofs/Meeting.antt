@@ -27,7 +27,7 @@ use Rattle.rds_session.specs.Marked.{same_mark}
 use Rattle.rds_session.specs.Received.{Delivery}
 use Rattle.rds_session.specs.Session.{Standing, Sent, fresh, then_more, after_said, ended_after, received_after, run, opening, after_opening, So_far, course}
 use Rattle.rds_session.specs.Steps.{IsOver}
-use Rattle.rds_session.specs.Versions.{format_of, says_hashes}
+use Rattle.rds_session.specs.Versions.{delta_format, says_hashes}
 use Rattle.rds_session.specs.Stream.{Splits}
 use Rattle.rds_session.proofs.Course.{run_follows, IsOrderly}
 use Rattle.rds_session.proofs.Plays.{Turn, Talks, IsPlay, Fits, says, texts, texts_are, opened_by, one_talks, talks_then, answers, words, client_at, server_at, beginnings, whole, client_comes, server_comes, server_talks}
@@ -89,7 +89,7 @@ missed s version own peer = record (greeted s version own peer) { turn = ForWhol
 -- ---- words
 
 abbrev delta_to : Version → ReplicaValue → ReplicaValue → List ℕ
-delta_to version from to = delta_message from (format_of version) to.own (digest_of to.state)
+delta_to version from to = delta_message from (delta_format version) to.own (digest_of to.state)
 
 abbrev last_word : Version → ReplicaValue → ReplicaValue → List (List ℕ)
 last_word version own peer = done_message (last_mark version own peer) ∷ []
@@ -238,7 +238,7 @@ module _ (version : Version) (a b : ReplicaValue) (h : CanMeet version a b) wher
     digest_answered =
         one_talks (missed s0 version b a) (behind_message version a (digest_of b.state)) (Learns (speaker version b a) (heard_so version b.state (digest_of a.state))) (delta_to version b a ∷ [])
         refl refl h.a_room.behind (whole_accepted version b a (server_told_by version a b h))
-        (ap (λ (m : List ℕ). m ∷ []) (behind_answer version b (digest_of a.state) (live_inside a.state.lives) (format_of version) a.own)) (h.b_room.delta, tt)
+        (ap (λ (m : List ℕ). m ∷ []) (behind_answer version b (digest_of a.state) (live_inside a.state.lives) (delta_format version) a.own)) (h.b_room.delta, tt)
 
     twice_played : IsPlay c0 s0 (hello_message a version ∷ hash_message a ∷ []) twice
     twice_played = (
@@ -280,7 +280,7 @@ module _ (version : Version) (a b : ReplicaValue) (h : CanMeet version a b) wher
     client_says = refl;
     client_learns = ap (λ (g : DigestValue). record (greeted c0 version a b) { turn = ForDelta (speaker version a b) g }) one;
     server_hears = hash_accepted version b a true says (hash_first version a b h.b_room says) (server_told_by version a b h) same;
-    server_says = ap (λ (g : DigestValue). hello_message b version ∷ hash_message b ∷ delta_message b (format_of version) a.own g ∷ []) (sym one);
+    server_says = ap (λ (g : DigestValue). hello_message b version ∷ hash_message b ∷ delta_message b (delta_format version) a.own g ∷ []) (sym one);
     server_learns = ap (λ (g : DigestValue). record (greeted s0 version b a) { turn = ForDelta (speaker version b a) g }) (sym one);
   }
 

@@ -5,7 +5,7 @@ use Rattle.rds_names.specs.declared.fault.Fault.{Fault}
 use Rattle.rds_names.specs.declared.fault.Fault.TheVariants.{TooLong}
 use Rattle.rds_session.specs.declared.step.Ended.{Ended}
 use Rattle.rds_session.specs.declared.step.Ended.TheVariants.{Going, Done, Failed}
-use Rattle.rds_session.specs.Chunks.{Under, start, message_in_chunks, Scan, More, Whole, Long, byte_scanned, goes_on, scan}
+use Rattle.rds_session.specs.Chunks.{Under, start, message_in_chunks, Scan, More, Whole, Long, byte_scanned, scan_on, scan}
 use Rattle.rds_session.specs.Messages.{bye_message, code_of}
 use Rattle.rds_session.specs.Session.{Standing, Sent, then_more, when_going, failure, refuses, message_comes, after_scan, stay, byte_comes, run}
 use Rattle.rds_session.specs.Steps.{Ran, IsOver}
@@ -53,7 +53,7 @@ scanned_under s u (Whole m rest) = refl
 scanned_under s u Long = refl
 
 by_scan : (s : Standing) (b : ℕ) (bs : List ℕ) (sc : Scan) → s.ended ≡ Going → ((t : Standing) → t.ended ≡ Going → run bs t ≡ after_scan t (scan bs t.under) run)
-    → then_more (after_scan s sc stay) (run bs) ≡ after_scan s (goes_on sc bs (scan bs)) run
+    → then_more (after_scan s sc stay) (run bs) ≡ after_scan s (scan_on sc bs (scan bs)) run
 by_scan s b bs (More u) going rec = rec (with_under s u) going ∙ scanned_under s u (scan bs u)
 by_scan s b bs (Whole m r) going rec =
     let p = message_comes (with_under s start) m in
@@ -78,7 +78,7 @@ pub record EndsAt (piece rest : List ℕ) (u : Under) (m : List ℕ) : Type 0 wh
   pub some : 0 < length front
   pub whole : scan front u ≡ Whole m []
 
-ends_by : (b : ℕ) (bs rest : List ℕ) (u : Under) (m : List ℕ) (sc : Scan) → byte_scanned u.place u.held b ≡ sc → goes_on sc bs (scan bs) ≡ Whole m rest
+ends_by : (b : ℕ) (bs rest : List ℕ) (u : Under) (m : List ℕ) (sc : Scan) → byte_scanned u.place u.held b ≡ sc → scan_on sc bs (scan bs) ≡ Whole m rest
     → ((v : Under) → scan bs v ≡ Whole m rest → EndsAt bs rest v m) → EndsAt (b ∷ bs) rest u m
 unfolding scan
 ends_by b bs rest u m (More v) is e rec =

@@ -6,13 +6,13 @@ use Rattle.rds_session.specs.declared.chunks.TheConstants.{MESSAGE_LIMIT}
 use Rattle.rds_session.specs.declared.chunks.Place.{Place}
 use Rattle.rds_session.specs.declared.chunks.Place.TheVariants.{Within}
 use Rattle.rds_session.specs.Arriving.{IsPlace, IsHeld}
-use Rattle.rds_session.specs.Chunks.{Under, Scan, Long, place_of, scan}
+use Rattle.rds_session.specs.Chunks.{Under, Scan, Long, place_left, scan}
 
 abbrev pub at-place : Place → List ℕ → Under
 at-place place held = record { place = place; held = held }
 
 abbrev pub at : ℕ → List ℕ → Under
-at left held = at-place (place_of left) held
+at left held = at-place (place_left left) held
 
 scan_one : (b : ℕ) (bs : List ℕ) (left : ℕ) (held : List ℕ) → length held < MESSAGE_LIMIT → scan (b ∷ bs) (at (suc left) held) ≡ scan bs (at left (held ++ b ∷ []))
 unfolding scan
@@ -43,10 +43,10 @@ pub record IsScanning (whole : Scan) (rest : List ℕ) (place : Place) (held : L
   pub is_place : IsPlace place
   pub is_held : IsHeld held
 
-place_is : (left : ℕ) → 0 < left → place_of left ≡ Within left
+place_is : (left : ℕ) → 0 < left → place_left left ≡ Within left
 place_is left h = let some : eqb left 0 ≡ false = ne_eqb left 0 (omega arith) in rw some refl
 
-place_held : (left : ℕ) → IsPlace (place_of left)
+place_held : (left : ℕ) → IsPlace (place_left left)
 place_held left = elim (cases_lt 0 left) [
   | inl lt ↦ rw (place_is left lt) lt
   | inr ge ↦ let none : left ≡ 0 = omega arith in rw none tt
@@ -55,7 +55,7 @@ place_held left = elim (cases_lt 0 left) [
 -- a run of a chunk's bytes was taken
 pub run_taken : (whole : Scan) (rest run more held held-new : List ℕ) (place place-new : Place) (left count len : ℕ)
     → IsScanning whole rest place held → place ≡ Within left → rest ≡ run ++ more → length run ≡ count → count ≤ left → len ≡ length held → count ≤ MESSAGE_LIMIT - len
-    → held-new ≡ held ++ run → place-new ≡ place_of (left - count) → IsScanning whole more place-new held-new
+    → held-new ≡ held ++ run → place-new ≡ place_left (left - count) → IsScanning whole more place-new held-new
 run_taken whole rest run more held held-new place place-new left count len h p split n le len-is room e q =
     let some : 0 < left = let w : IsPlace (Within left) = subst IsPlace p h.is_place in w in
     let here : record { place = place; held = held } ≡ at left held = ap (λ (x : Place). at-place x held) (p ∙ sym (place_is left some)) in

@@ -7,7 +7,7 @@ use Rattle.std.proofs.lemmas.List.{append-nil}
 use Rattle.std.proofs.lemmas.List.Concat.{flat_map-cons}
 use Rattle.rds_session.specs.declared.chunks.Place.{Place}
 use Rattle.rds_session.specs.declared.chunks.Place.TheVariants.{First, Second, Within}
-use Rattle.rds_session.specs.Chunks.{place_of, chunk_text, message_text}
+use Rattle.rds_session.specs.Chunks.{place_left, chunk_text, message_text}
 use Rattle.rds_session.specs.Stream.{IsByte, IsChunk, AreChunks, AreSplit, contents_of, IsChunkFront, Splits}
 use Rattle.rds_session.proofs.Messages.{high_low}
 use Rattle.rds_session.proofs.Splitting.{split_from, messages_of}
@@ -190,8 +190,8 @@ split_on (b ∷ bs) h First held raw u = onward raw bs b (split_from bs (Second 
 split_on (b ∷ bs) h (Second high) held raw u =
     ends_or_not high b bs held raw (eqb (high * 256 + b) 0) refl h.0 u (split_on bs h.1 First [] [] nothing_yet) (λ w. split_on bs h.1 (Within (high * 256 + b)) held (raw ++ b ∷ []) w)
 split_on (b ∷ bs) h (Within left) held raw u =
-    onward raw bs b (split_from bs (place_of (left - 1)) (held ++ b ∷ []) (raw ++ b ∷ []))
-    (split_on bs h.1 (place_of (left - 1)) (held ++ b ∷ []) (raw ++ b ∷ []) (next_byte left b held raw u (eqb (left - 1) 0) refl))
+    onward raw bs b (split_from bs (place_left (left - 1)) (held ++ b ∷ []) (raw ++ b ∷ []))
+    (split_on bs h.1 (place_left (left - 1)) (held ++ b ∷ []) (raw ++ b ∷ []) (next_byte left b held raw u (eqb (left - 1) 0) refl))
 
 pub all_split : AreSplit
 all_split x h = ((messages_of x).0, (messages_of x).1, split_on x h First [] [] nothing_yet)

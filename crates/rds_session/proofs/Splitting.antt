@@ -7,7 +7,7 @@ use Rattle.std.proofs.lemmas.List.{append-nil}
 use Rattle.std.proofs.lemmas.List.Concat.{flat_map-cons}
 use Rattle.rds_session.specs.declared.chunks.Place.{Place}
 use Rattle.rds_session.specs.declared.chunks.Place.TheVariants.{First, Second, Within}
-use Rattle.rds_session.specs.Chunks.{place_of, chunk_text, message_text}
+use Rattle.rds_session.specs.Chunks.{place_left, chunk_text, message_text}
 use Rattle.rds_session.specs.Stream.{IsChunk, AreChunks, contents_of, IsChunkFront, IsPart, Splits, AreSplitOnce}
 use Rattle.rds_session.proofs.Messages.{high_low}
 
@@ -20,18 +20,18 @@ split_from [] place held raw = ([], raw)
 split_from (b ∷ bs) First held raw = split_from bs (Second b) held (raw ++ b ∷ [])
 split_from (b ∷ bs) (Second high) held raw =
     if high * 256 + b == 0 then then_message held (split_from bs First [] []) else split_from bs (Within (high * 256 + b)) held (raw ++ b ∷ [])
-split_from (b ∷ bs) (Within left) held raw = split_from bs (place_of (left - 1)) (held ++ b ∷ []) (raw ++ b ∷ [])
+split_from (b ∷ bs) (Within left) held raw = split_from bs (place_left (left - 1)) (held ++ b ∷ []) (raw ++ b ∷ [])
 
 -- the messages of a stream, and its rest
 abbrev pub messages_of : List ℕ → List (List ℕ) × List ℕ
 messages_of x = split_from x First [] []
 
-split_one : (b : ℕ) (bs : List ℕ) (left : ℕ) (held raw : List ℕ) → split_from (b ∷ bs) (place_of (suc left)) held raw ≡ split_from bs (place_of left) (held ++ b ∷ []) (raw ++ b ∷ [])
+split_one : (b : ℕ) (bs : List ℕ) (left : ℕ) (held raw : List ℕ) → split_from (b ∷ bs) (place_left (suc left)) held raw ≡ split_from bs (place_left left) (held ++ b ∷ []) (raw ++ b ∷ [])
 unfolding split_from
 split_one b bs left held raw = let less : suc left - 1 ≡ left = omega arith in let some : eqb (suc left) 0 ≡ false = ne_eqb (suc left) 0 (omega arith) in rw (some, less) refl
 
 split_run : (run more : List ℕ) (left : ℕ) (held raw : List ℕ) → length run ≤ left
-    → split_from (run ++ more) (place_of left) held raw ≡ split_from more (place_of (left - length run)) (held ++ run) (raw ++ run)
+    → split_from (run ++ more) (place_left left) held raw ≡ split_from more (place_left (left - length run)) (held ++ run) (raw ++ run)
 split_run [] more left held raw le = let same : left - 0 ≡ left = omega arith in rw (same, append-nil held, append-nil raw) refl
 split_run (b ∷ run) more zero held raw le = absurd (omega arith)
 split_run (b ∷ run) more (suc left) held raw le =
@@ -41,7 +41,7 @@ split_run (b ∷ run) more (suc left) held raw le =
     ∙ rw (less, append_assoc held (b ∷ []) run, append_assoc raw (b ∷ []) run) refl
 
 split_length : (high low : ℕ) (more held raw : List ℕ) → 0 < high * 256 + low
-    → split_from (high ∷ low ∷ more) First held raw ≡ split_from more (place_of (high * 256 + low)) held (raw ++ high ∷ low ∷ [])
+    → split_from (high ∷ low ∷ more) First held raw ≡ split_from more (place_left (high * 256 + low)) held (raw ++ high ∷ low ∷ [])
 unfolding split_from
 split_length high low more held raw pos =
     let some : eqb (high * 256 + low) 0 ≡ false = ne_eqb (high * 256 + low) 0 (omega arith) in
@@ -55,7 +55,7 @@ split_chunk c more held raw h =
     let e : high * 256 + low ≡ n = high_low n h.1 in
     let none : n - length c ≡ 0 = omega arith in
     split_length high low (c ++ more) held raw (omega (arith, e, h.0))
-    ∙ ap (λ (k : ℕ). split_from (c ++ more) (place_of k) held (raw ++ high ∷ low ∷ [])) e
+    ∙ ap (λ (k : ℕ). split_from (c ++ more) (place_left k) held (raw ++ high ∷ low ∷ [])) e
     ∙ split_run c more n held (raw ++ high ∷ low ∷ []) (omega arith)
     ∙ rw (none, append_assoc raw (high ∷ low ∷ []) c) refl
 
@@ -89,7 +89,7 @@ split_front (high ∷ []) held raw h = refl
 split_front (high ∷ low ∷ c) held raw h =
     let whole : c ++ [] ≡ c = append-nil c in
     split_length high low c held raw (omega arith)
-    ∙ ap (λ (t : List ℕ). split_from t (place_of (high * 256 + low)) held (raw ++ high ∷ low ∷ [])) (sym whole)
+    ∙ ap (λ (t : List ℕ). split_from t (place_left (high * 256 + low)) held (raw ++ high ∷ low ∷ [])) (sym whole)
     ∙ split_run c [] (high * 256 + low) held (raw ++ high ∷ low ∷ []) (omega arith)
     ∙ ap (λ (t : List ℕ). ([], t)) (append_assoc raw (high ∷ low ∷ []) c)
 

@@ -48,11 +48,11 @@ use Rattle.rds_answers.specs.Hashes.{digest_hash, hash_in}
 use Rattle.rds_session.specs.Marked.{same_mark}
 use Rattle.rds_session.specs.Wants.{heard_behind, said_behind, wanted_by, wants_of}
 use Rattle.rds_codec.specs.declared.formats.Format.{Format}
-use Rattle.rds_session.specs.Versions.{as_hello, format_of, says_briefs, says_hashes, version_byte}
+use Rattle.rds_session.specs.Versions.{as_hello, delta_format, says_briefs, says_hashes, version_byte}
 use Rattle.rds_answers.proofs.MarkHalves.{IsMark}
 use Rattle.rds_session.proofs.MarkTexts.{mark_again}
-use Rattle.rds_session.specs.Meeting.{HasRoom, IsItsLeast, last_mark}
-use Rattle.rds_session.specs.Messages.{hello_message, behind_message, digest_body, digest_message, digest_said, hash_message, delta_message, done_message, number_of}
+use Rattle.rds_session.specs.Meeting.{FitsMessages, IsItsLeast, last_mark}
+use Rattle.rds_session.specs.Messages.{hello_message, behind_message, digest_body, digest_message, digest_said, hash_message, delta_message, done_message, type_byte}
 use Rattle.rds_session.specs.Received.{Delivery}
 use Rattle.rds_session.specs.declared.talk.Peer.{Peer}
 use Rattle.rds_session.specs.declared.talk.Side.{Side}
@@ -68,7 +68,7 @@ pub record IsTold (version : Version) (k from : ReplicaValue) : Type 0 where
   pub others : from.own ≡ k.own → ⊥
   pub text : IsSnapshot from
   pub own_text : IsSnapshot k
-  pub room : HasRoom version from k
+  pub room : FitsMessages version from k
 
 -- a text is read whole
 read_whole : {V : Type 0} (kind : Kind V) (read : Reader V) → IsReaderOf kind read → (v : V) → kind.is_value v → length (kind.text v) ≤ LIMIT → all_of read (kind.text v) ≡ Ok v
@@ -80,9 +80,9 @@ read_whole {V} kind read is v h le =
 
 -- a hello of the format of the version, as that version's is read
 hello_of : ReplicaValue → Version → Hello
-hello_of from version = record { version = version_of (format_of version); roster = from.roster; own = from.own }
+hello_of from version = record { version = version_of (delta_format version); roster = from.roster; own = from.own }
 
-version_is : (version : Version) → is_version (version_of (format_of version)) ≡ true
+version_is : (version : Version) → is_version (version_of (delta_format version)) ≡ true
 version_is One = refl
 version_is Two = refl
 version_is Three = refl
@@ -206,7 +206,7 @@ behind_answer_by false v g inside format asker = refl
 pub behind_answer : (version : Version) (k : ReplicaValue) (g : DigestValue) → IsInside g.live g.seen → (format : Format) (asker : ℕ)
     → delta_message k format asker (heard_so version k.state g) ≡ delta_message k format asker g
 behind_answer version k g inside format asker =
-    ap (λ (a : AnswerValue). number_of kinds.Delta ∷ answer_text_in format a) (behind_answer_by (says_briefs version) k.state g inside format asker)
+    ap (λ (a : AnswerValue). type_byte kinds.Delta ∷ answer_text_in format a) (behind_answer_by (says_briefs version) k.state g inside format asker)
 
 ok_same : {A : Type 0} (r : Result A Fault) (x y : A) → r ≡ Ok x → r ≡ Ok y → x ≡ y
 ok_same r x y first second = let same = sym first ∙ second in cc
@@ -223,11 +223,11 @@ same_digest version k from t within same =
 -- ---- HASH
 
 -- where hashes are said, what is said first is one
-pub hash_first : (version : Version) (k from : ReplicaValue) → HasRoom version from k → says_hashes version ≡ true → length (hash_message from) ≤ MESSAGE_LIMIT
+pub hash_first : (version : Version) (k from : ReplicaValue) → FitsMessages version from k → says_hashes version ≡ true → length (hash_message from) ≤ MESSAGE_LIMIT
 hash_first version k from room says = subst (λ (hashed : Bool). length (digest_said hashed version from) ≤ MESSAGE_LIMIT) says room.first
 
 -- what is within the limit then is a hash, of a text that is
-text_room : (text hash : List ℕ) (long : Bool) → ltb LIMIT (length text) ≡ long → length (cond long (number_of kinds.Digest ∷ text) (number_of kinds.Hash ∷ hash)) ≤ MESSAGE_LIMIT
+text_room : (text hash : List ℕ) (long : Bool) → ltb LIMIT (length text) ≡ long → length (cond long (type_byte kinds.Digest ∷ text) (type_byte kinds.Hash ∷ hash)) ≤ MESSAGE_LIMIT
     → length text ≤ LIMIT
 text_room text hash true is room = omega (arith, room)
 text_room text hash false is room = ltb-false _ _ is
@@ -237,7 +237,7 @@ hash_room k room =
     let text = digest_text (digest_of k.state) in
     text_room text (digest_hash (digest_of k.state)) (ltb LIMIT (length text)) refl room
 
-hash_is : (k : ReplicaValue) → length (hash_message k) ≤ MESSAGE_LIMIT → hash_message k ≡ number_of kinds.Hash ∷ digest_hash (digest_of k.state)
+hash_is : (k : ReplicaValue) → length (hash_message k) ≤ MESSAGE_LIMIT → hash_message k ≡ type_byte kinds.Hash ∷ digest_hash (digest_of k.state)
 hash_is k room = let short : ltb LIMIT (length (digest_text (digest_of k.state))) ≡ false = le-ltb _ _ (hash_room k room) in rw short refl
 
 hash_again : (m : List ℕ) → hash_in (sha256 m) ≡ Ok (sha256 m)
@@ -264,13 +264,13 @@ hash_accepted version k from same says room t is =
 -- ---- DELTA and BYE
 
 pub delta_accepted : (version : Version) (k from : ReplicaValue) (digest : DigestValue) → IsTold version k from
-    → verdict k (ForDelta (speaker version k from) digest) (delta_message from (format_of version) k.own (digest_of k.state))
+    → verdict k (ForDelta (speaker version k from) digest) (delta_message from (delta_format version) k.own (digest_of k.state))
     ≡ Ok (Receives (least_state from.state (digest_of k.state)) (longer_than k.roster from.roster) (last_mark version k from))
 unfolding verdict answer_in
 delta_accepted version k from digest t =
     let n = among k from in
     let g = digest_of k.state in
-    let format = format_of version in
+    let format = delta_format version in
     let delta = least_state from.state g in
     let sent = answer k.own delta (certificate_of g delta) in
     let read : answer_in format n (answer_text_in format sent) ≡ Ok sent =

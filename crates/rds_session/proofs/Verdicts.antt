@@ -28,9 +28,9 @@ use Rattle.rds_session.specs.Bodies.{hello_in, digest_in, answer_in}
 use Rattle.rds_session.specs.Contents.{ContentValue, OfHello, OfDigest, OfHash, OfDelta, OfBye, OfMark, IsRead, IsReadFor, body_read, bye_read, code_read, content_judged, expected_of, expects_hash, expects_mark, hash_read, hello_read, kind_read, message_read, plain_read, read_as, version_read}
 use Rattle.rds_session.specs.Judging.{Awaited, ForHello, ForDigest, ForWhole, ForDelta, ForBye, Said, Judges, StopsAs, StopsByNoDevice, body_came, bye_came, code_came, hash_came, hash_judged, hello_came, is_done, kind_came, plain_came, read_then, replicas_of, verdict, version_came, version_with, waits_for_hash, waits_for_mark}
 use Rattle.rds_answers.specs.Hashes.{hash_in}
-use Rattle.rds_session.specs.Marked.{mark_in}
+use Rattle.rds_session.specs.Marked.{mark_read}
 use Rattle.rds_session.specs.Messages.{bye_of, kind_of}
-use Rattle.rds_session.specs.Versions.{as_hello, format_of, says_briefs}
+use Rattle.rds_session.specs.Versions.{as_hello, delta_format, says_briefs}
 use Rattle.rds_session.specs.declared.version.Version.{Version}
 use Rattle.rds_session.specs.declared.version.Version.TheVariants.{One, Two, Three, Four, Five}
 use Rattle.rds_state.specs.declared.mark.Mark.{Mark}
@@ -64,9 +64,9 @@ plain_is kept turn code [] = refl
 plain_is kept turn code (b ∷ rest) = refl
 
 marked_is : (kept : ReplicaValue) (turn : Awaited) (code : ByeCode) (rest : List ℕ) (marked : Bool)
-    → cond marked (read_then (mark_in rest) (λ m. content_judged kept turn (OfMark m))) (plain_came turn code rest)
-    ≡ read_then (cond marked (read_as OfMark (mark_in rest)) (plain_read code rest)) (content_judged kept turn)
-marked_is kept turn code rest true = as_is OfMark (mark_in rest) (content_judged kept turn)
+    → cond marked (read_then (mark_read rest) (λ m. content_judged kept turn (OfMark m))) (plain_came turn code rest)
+    ≡ read_then (cond marked (read_as OfMark (mark_read rest)) (plain_read code rest)) (content_judged kept turn)
+marked_is kept turn code rest true = as_is OfMark (mark_read rest) (content_judged kept turn)
 marked_is kept turn code rest false = plain_is kept turn code rest
 
 waits_is : (kept : ReplicaValue) (turn : Awaited) → waits_for_mark turn ≡ expects_mark (expected_of kept turn)
@@ -117,7 +117,7 @@ body_is kept kinds.Digest (ForBye mark) body = refl
 body_is kept kinds.Delta (ForHello side) body = refl
 body_is kept kinds.Delta (ForDigest peer) body = refl
 body_is kept kinds.Delta (ForWhole peer) body = refl
-body_is kept kinds.Delta (ForDelta peer digest) body = as_is OfDelta (answer_in (format_of peer.version) (replicas_of kept peer.roster) body) (content_judged kept (ForDelta peer digest))
+body_is kept kinds.Delta (ForDelta peer digest) body = as_is OfDelta (answer_in (delta_format peer.version) (replicas_of kept peer.roster) body) (content_judged kept (ForDelta peer digest))
 body_is kept kinds.Delta (ForBye mark) body = refl
 
 kind_is : (kept : ReplicaValue) (turn : Awaited) (kind : Option MessageKind) (body : List ℕ) → kind_came kept turn kind body ≡ read_then (kind_read (expected_of kept turn) kind body) (content_judged kept turn)
@@ -177,8 +177,8 @@ mark_known false false mark = tt
 code_known : (marked : Bool) (code : Option ByeCode) (rest : List ℕ) → IsKnown (code_read marked code rest)
 code_known marked None rest = tt
 code_known marked (Some code) rest =
-    if_known (marked && is_done code) (read_as OfMark (mark_in rest)) (plain_read code rest)
-    (as_known OfMark (mark_in rest) (mark_known (ltb (length rest) 16) (ltb 16 (length rest)) _))
+    if_known (marked && is_done code) (read_as OfMark (mark_read rest)) (plain_read code rest)
+    (as_known OfMark (mark_read rest) (mark_known (ltb (length rest) 16) (ltb 16 (length rest)) _))
     (plain_known code rest)
 
 bye_known : (marked : Bool) (body : List ℕ) → IsKnown (bye_read marked body)
@@ -275,8 +275,8 @@ plain_no_delta : (code : ByeCode) (rest : List ℕ) (a : AnswerValue) → plain_
 plain_no_delta code [] a is = cc
 plain_no_delta code (x ∷ xs) a is = cc
 
-if_no_delta : (marked : Bool) (code : ByeCode) (rest : List ℕ) (a : AnswerValue) → cond marked (read_as OfMark (mark_in rest)) (plain_read code rest) ≡ Ok (OfDelta a) → ⊥
-if_no_delta true code rest a is = mark_no_delta (mark_in rest) a is
+if_no_delta : (marked : Bool) (code : ByeCode) (rest : List ℕ) (a : AnswerValue) → cond marked (read_as OfMark (mark_read rest)) (plain_read code rest) ≡ Ok (OfDelta a) → ⊥
+if_no_delta true code rest a is = mark_no_delta (mark_read rest) a is
 if_no_delta false code rest a is = plain_no_delta code rest a is
 
 code_no_delta : (marked : Bool) (code : Option ByeCode) (rest : List ℕ) (a : AnswerValue) → code_read marked code rest ≡ Ok (OfDelta a) → ⊥
@@ -308,7 +308,7 @@ delta_read format n (b ∷ body) a are within is =
     record { body = body; read = read; value = answer_of format n body a (λ i. are (suc i)) (omega arith) read }
 
 read_so : (kept : ReplicaValue) (turn : Awaited) (m : List ℕ) (content : ContentValue) → AreBytes m → length m ≤ LIMIT → message_read (expected_of kept turn) m ≡ Ok content → IsReadFor kept turn content
-read_so kept (ForDelta peer digest) m (OfDelta a) are within is = delta_read (format_of peer.version) (replicas_of kept peer.roster) m a are within is
+read_so kept (ForDelta peer digest) m (OfDelta a) are within is = delta_read (delta_format peer.version) (replicas_of kept peer.roster) m a are within is
 read_so kept (ForDelta peer digest) m (OfHello version h) are within is = tt
 read_so kept (ForDelta peer digest) m (OfMark mark) are within is = tt
 read_so kept (ForDelta peer digest) m (OfDigest d) are within is = tt

@@ -23,8 +23,8 @@ pub data Scan : Type 0 where
   Long : Scan
 
 -- the place where so many bytes of a chunk are still to come
-abbrev pub place_of : ℕ → Place
-place_of left = if left == 0 then First else Within left
+abbrev pub place_left : ℕ → Place
+place_left left = if left == 0 then First else Within left
 
 -- one byte comes, with nothing behind it
 abbrev pub byte_scanned : Place → List ℕ → ℕ → Scan
@@ -32,17 +32,17 @@ byte_scanned First held b = More (record { place = Second b; held = held })
 byte_scanned (Second high) held b =
     if high * 256 + b == 0 then Whole held [] else More (record { place = Within (high * 256 + b); held = held })
 byte_scanned (Within left) held b =
-    if nat_lt (length held) MESSAGE_LIMIT then More (record { place = place_of (left - 1); held = held ++ b ∷ [] }) else Long
+    if nat_lt (length held) MESSAGE_LIMIT then More (record { place = place_left (left - 1); held = held ++ b ∷ [] }) else Long
 
-abbrev pub goes_on : Scan → List ℕ → (Under → Scan) → Scan
-goes_on (More u) bs go = go u
-goes_on (Whole m rest) bs go = Whole m bs
-goes_on Long bs go = Long
+abbrev pub scan_on : Scan → List ℕ → (Under → Scan) → Scan
+scan_on (More u) bs go = go u
+scan_on (Whole m rest) bs go = Whole m bs
+scan_on Long bs go = Long
 
 -- bytes come, up to the end of a message
 unfoldable pub scan : List ℕ → Under → Scan
 scan [] u = More u
-scan (b ∷ bs) u = goes_on (byte_scanned u.place u.held b) bs (scan bs)
+scan (b ∷ bs) u = scan_on (byte_scanned u.place u.held b) bs (scan bs)
 
 -- ---- writing
 

@@ -67,28 +67,28 @@ awaited_of (Some (peer, None), (None, mark)) = ForDigest peer
 awaited_of (Some (peer, None), (Some side, mark)) = ForWhole peer
 awaited_of (Some (peer, Some digest), rest) = ForDelta peer digest
 
-abbrev back : (a : Awaited) → awaited_of (known_of a) ≡ a
-back (ForHello side) = refl
-back (ForDigest peer) = refl
-back (ForWhole peer) = refl
-back (ForDelta peer digest) = refl
-back (ForBye mark) = refl
+abbrev awaited_back : (a : Awaited) → awaited_of (known_of a) ≡ a
+awaited_back (ForHello side) = refl
+awaited_back (ForDigest peer) = refl
+awaited_back (ForWhole peer) = refl
+awaited_back (ForDelta peer digest) = refl
+awaited_back (ForBye mark) = refl
 
 abbrev coded_awaited : Coded Awaited
 coded_awaited =
     code_by Known
     (coded× (coded_option (coded× coded_peer (coded_option coded_digest))) (coded× (coded_option coded_side) (coded_option coded_mark)))
-    known_of awaited_of back
+    known_of awaited_of awaited_back
 
 abbrev coded_under : Coded Under
 coded_under = code_by (Place × List ℕ) (coded× place.the_row.coded (coded_list coded_ℕ)) (λ u. (u.place, u.held)) (λ p. record { place = p.0; held = p.1 }) (λ _. refl)
 
-abbrev Parts : Type 0
-Parts = (Side × (ReplicaValue × Bool)) × (Awaited × (Option Delivery × (Ended × Under)))
+abbrev SessionParts : Type 0
+SessionParts = (Side × (ReplicaValue × Bool)) × (Awaited × (Option Delivery × (Ended × Under)))
 
 abbrev pub coded_standing : Coded Standing
 coded_standing =
-    code_by Parts (coded× (coded× coded_side (coded× coded_replica coded_bool)) (coded× coded_awaited (coded× (coded_option coded_delivery) (coded× ended.the_row.coded coded_under))))
+    code_by SessionParts (coded× (coded× coded_side (coded× coded_replica coded_bool)) (coded× coded_awaited (coded× (coded_option coded_delivery) (coded× ended.the_row.coded coded_under))))
     (λ s. ((s.side, (s.kept, s.begun)), (s.turn, (s.received, (s.ended, s.under)))))
     (λ p. record { side = p.0.0; kept = p.0.1.0; begun = p.0.1.1; turn = p.1.0; received = p.1.1.0; ended = p.1.1.1.0; under = p.1.1.1.1 })
     (λ _. refl)

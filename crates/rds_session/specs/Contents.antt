@@ -23,8 +23,8 @@ use Rattle.rds_session.specs.Bodies.{hello_in, digest_in, answer_in}
 use Rattle.rds_session.specs.declared.version.Version.{Version}
 use Rattle.rds_session.specs.Judging.{Awaited, ForHello, ForDigest, ForWhole, ForDelta, ForBye, Said, Learns, bye_judged, delta_judged, hash_judged, is_done, mark_judged, member_judged, replicas_of, version_with}
 use Rattle.rds_answers.specs.Hashes.{hash_in}
-use Rattle.rds_session.specs.Marked.{mark_in}
-use Rattle.rds_session.specs.Versions.{as_hello, format_of, says_hashes}
+use Rattle.rds_session.specs.Marked.{mark_read}
+use Rattle.rds_session.specs.Versions.{as_hello, delta_format, says_hashes}
 use Rattle.rds_session.specs.Wants.{heard_behind}
 use Rattle.rds_session.specs.Messages.{kind_of, bye_of}
 
@@ -49,7 +49,7 @@ abbrev pub expected_of : ReplicaValue → Awaited → Expected
 expected_of kept (ForHello side) = expecteds.Hello side
 expected_of kept (ForDigest peer) = expecteds.Digest peer.version (replicas_of kept peer.roster) (says_hashes peer.version)
 expected_of kept (ForWhole peer) = expecteds.Digest peer.version (replicas_of kept peer.roster) false
-expected_of kept (ForDelta peer digest) = expecteds.Delta (format_of peer.version) (replicas_of kept peer.roster)
+expected_of kept (ForDelta peer digest) = expecteds.Delta (delta_format peer.version) (replicas_of kept peer.roster)
 expected_of kept (ForBye mark) = expecteds.Bye (is_some mark)
 
 -- ---- reading
@@ -77,7 +77,7 @@ plain_read code (b ∷ rest) = Err Extra
 
 abbrev pub code_read : Bool → Option ByeCode → List ℕ → Result ContentValue Fault
 code_read marked None rest = Err Bad
-code_read marked (Some code) rest = if marked && is_done code then read_as OfMark (mark_in rest) else plain_read code rest
+code_read marked (Some code) rest = if marked && is_done code then read_as OfMark (mark_read rest) else plain_read code rest
 
 abbrev pub bye_read : Bool → List ℕ → Result ContentValue Fault
 bye_read marked [] = Err Cut
@@ -129,5 +129,5 @@ pub record IsRead (format : Format) (replicas : ℕ) (answer : AnswerValue) : Ty
 
 -- where an answer is waited for, it was read of the replicas of the longer roster, in the peer's format
 abbrev pub IsReadFor : ReplicaValue → Awaited → ContentValue → Type 0
-IsReadFor kept (ForDelta peer digest) (OfDelta answer) = IsRead (format_of peer.version) (replicas_of kept peer.roster) answer
+IsReadFor kept (ForDelta peer digest) (OfDelta answer) = IsRead (delta_format peer.version) (replicas_of kept peer.roster) answer
 IsReadFor kept turn content = Unit {0}

@@ -11,7 +11,7 @@ use Rattle.rds_session.specs.Session.{Heard, Nothing, So_far, All_of, course}
 use Rattle.rds_session.specs.Steps.{ReceivedAtMost}
 
 -- what is written and answered is what a session sends and comes to for all that the reader held, with its end
-pub record IsWhole (side : Side) (kept : ReplicaValue) (input : List ℕ) (before after : Option (List ℕ)) (received : Option Delivery) (ended : Ended) : Type 0 where
+pub record IsWholeSession (side : Side) (kept : ReplicaValue) (input : List ℕ) (before after : Option (List ℕ)) (received : Option Delivery) (ended : Ended) : Type 0 where
   pub is_received : received ≡ (course side kept (All_of input)).0.received
   pub is_ended : ended ≡ (course side kept (All_of input)).0.ended
   pub written : Appends before after (course side kept (All_of input)).1
@@ -22,7 +22,7 @@ pub record HasRunOut (side : Side) (kept : ReplicaValue) (heard : Heard) (receiv
   pub at_most : ReceivedAtMost side kept heard received
 
 abbrev pub Exchanges : Side → ReplicaValue → List ℕ → Option (List ℕ) → Option (List ℕ) → Option Delivery → Ended → Type 0
-Exchanges side kept input before after received ended = IsWhole side kept input before after received ended ⊎ HasRunOut side kept (All_of input) received ended
+Exchanges side kept input before after received ended = IsWholeSession side kept input before after received ended ⊎ HasRunOut side kept (All_of input) received ended
 
 -- what the reader held at first and doesn't hold now is what was heard
 abbrev pub IsHeard : Option (List ℕ) → Option (List ℕ) → Heard → Type 0

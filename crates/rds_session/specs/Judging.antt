@@ -30,10 +30,10 @@ use Rattle.rds_session.specs.declared.version.Version.{Version}
 use Rattle.rds_session.specs.Bodies.{hello_in, digest_in, answer_in}
 use Rattle.rds_answers.specs.Checked.{passes}
 use Rattle.rds_answers.specs.Hashes.{digest_hash, hash_in}
-use Rattle.rds_session.specs.Marked.{mark_in, same_mark, told_mark}
-use Rattle.rds_session.specs.Messages.{kind_of, bye_of, hello_message, behind_message, digest_message, digest_said, delta_message, done_message, fault_of}
+use Rattle.rds_session.specs.Marked.{mark_read, same_mark, told_mark}
+use Rattle.rds_session.specs.Messages.{kind_of, bye_of, hello_message, behind_message, digest_message, digest_said, delta_message, done_message, bye_fault}
 use Rattle.rds_session.specs.Wants.{heard_behind}
-use Rattle.rds_session.specs.Versions.{as_hello, format_of, says_hashes, version_byte, version_said}
+use Rattle.rds_session.specs.Versions.{as_hello, delta_format, says_hashes, version_byte, version_said}
 
 -- the message that is waited for: a HELLO to this side, or another with what the earlier ones said, who the peer is and
 -- its digest, and where marks are told the own one. A digest is waited for by its hash, where the version has them, or
@@ -78,7 +78,7 @@ saying_of acts.Fork = Forks
 abbrev pub bye_judged : ByeCode → Awaited → Result Said Stop
 bye_judged byes.Done (ForBye None) = Ok Finishes
 bye_judged byes.Done turn = Err (Refused OutOfTurn)
-bye_judged code turn = Err (Left (fault_of code))
+bye_judged code turn = Err (Left (bye_fault code))
 
 -- the peer is done in its turn alone, and holds what is held here, where its mark is the own one
 abbrev pub mark_judged : Awaited → Mark → Result Said Stop
@@ -108,7 +108,7 @@ plain_came turn code (b ∷ rest) = Err (Refused Extra)
 abbrev pub code_came : Awaited → Option ByeCode → List ℕ → Result Said Stop
 code_came turn None rest = Err (Refused Bad)
 code_came turn (Some code) rest =
-    if waits_for_mark turn && is_done code then read_then (mark_in rest) (mark_judged turn) else plain_came turn code rest
+    if waits_for_mark turn && is_done code then read_then (mark_read rest) (mark_judged turn) else plain_came turn code rest
 
 -- a BYE has one byte, its code, and a mark behind it where one is waited for
 abbrev pub bye_came : Awaited → List ℕ → Result Said Stop
@@ -203,7 +203,7 @@ delta_judged kept peer a =
 
 abbrev pub delta_came : ReplicaValue → Peer → List ℕ → Result Said Stop
 delta_came kept peer body =
-    read_then (answer_in (format_of peer.version) (replicas_of kept peer.roster) body) (delta_judged kept peer)
+    read_then (answer_in (delta_format peer.version) (replicas_of kept peer.roster) body) (delta_judged kept peer)
 
 -- a body comes: a BYE at any time, another message where it is waited for
 abbrev pub body_came : ReplicaValue → MessageKind → Awaited → List ℕ → Result Said Stop
@@ -228,20 +228,20 @@ verdict kept turn (n ∷ body) = kind_came kept turn (kind_of n) body
 -- ---- what follows from it
 
 -- the message that is waited for then
-abbrev pub turn_after : Awaited → Said → Awaited
-turn_after turn (Greets peer) = ForDigest peer
-turn_after turn (Learns peer digest) = ForDelta peer digest
-turn_after turn (Shares peer digest) = ForDelta peer digest
-turn_after turn (Misses peer) = ForWhole peer
-turn_after turn (Receives delta roster mark) = ForBye mark
-turn_after turn Finishes = turn
-turn_after turn Forks = turn
+abbrev pub awaited_after : Awaited → Said → Awaited
+awaited_after turn (Greets peer) = ForDigest peer
+awaited_after turn (Learns peer digest) = ForDelta peer digest
+awaited_after turn (Shares peer digest) = ForDelta peer digest
+awaited_after turn (Misses peer) = ForWhole peer
+awaited_after turn (Receives delta roster mark) = ForBye mark
+awaited_after turn Finishes = turn
+awaited_after turn Forks = turn
 
 -- who speaks, what is kept here, by a hash or whole, and what the digest lacks of that
 abbrev pub answers_digest : Bool → ReplicaValue → Peer → DigestValue → List (List ℕ)
 answers_digest hashed kept peer digest =
     hello_message kept peer.version ∷ digest_said hashed peer.version kept
-    ∷ delta_message kept (format_of peer.version) peer.number digest ∷ []
+    ∷ delta_message kept (delta_format peer.version) peer.number digest ∷ []
 
 -- the messages that answer it, in the peer's version
 abbrev pub replies_of : Side → ReplicaValue → Awaited → Said → List (List ℕ)
@@ -249,12 +249,12 @@ replies_of Server kept (ForDigest asked) (Learns peer digest) = answers_digest f
 replies_of Server kept (ForDigest asked) (Shares peer digest) = answers_digest true kept peer digest
 replies_of Server kept (ForDigest asked) (Misses peer) = hello_message kept peer.version ∷ digest_message peer.version kept ∷ []
 replies_of Server kept (ForWhole asked) (Learns peer digest) =
-    delta_message kept (format_of peer.version) peer.number digest ∷ []
+    delta_message kept (delta_format peer.version) peer.number digest ∷ []
 replies_of (Client version) kept (ForDigest asked) (Learns peer digest) =
     if says_hashes peer.version then behind_message peer.version kept digest ∷ [] else []
 replies_of (Client version) kept (ForDigest asked) (Misses peer) = digest_message peer.version kept ∷ []
 replies_of (Client version) kept (ForDelta peer digest) (Receives delta roster mark) =
-    delta_message kept (format_of peer.version) peer.number digest ∷ done_message mark ∷ []
+    delta_message kept (delta_format peer.version) peer.number digest ∷ done_message mark ∷ []
 replies_of Server kept (ForBye mark) Finishes = done_message mark ∷ []
 replies_of Server kept (ForBye mark) Forks = done_message mark ∷ []
 replies_of _ _ _ _ = []

@@ -31,8 +31,8 @@ abbrev pub mark_from : List ℕ → Mark
 mark_from bytes = record { high = from_be_bytes w64 (take 8 bytes); low = from_be_bytes w64 (drop (length bytes - 8) bytes) }
 
 -- 16 bytes are a mark, and no others are
-abbrev pub mark_in : List ℕ → Result Mark Fault
-mark_in bytes = if nat_lt (length bytes) 16 then Err Cut else (if nat_lt 16 (length bytes) then Err Extra else Ok (mark_from bytes))
+abbrev pub mark_read : List ℕ → Result Mark Fault
+mark_read bytes = if nat_lt (length bytes) 16 then Err Cut else (if nat_lt 16 (length bytes) then Err Extra else Ok (mark_from bytes))
 
 abbrev pub same_mark : Mark → Mark → Bool
 same_mark m n = (m.high == n.high) && (m.low == n.low)

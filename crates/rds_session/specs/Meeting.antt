@@ -30,18 +30,18 @@ use Rattle.rds_session.specs.Messages.{hello_message, behind_message, digest_mes
 use Rattle.rds_session.specs.Received.{Delivery}
 use Rattle.rds_session.specs.Session.{So_far, All_of, course}
 use Rattle.rds_session.specs.Stream.{Splits}
-use Rattle.rds_session.specs.Versions.{format_of, says_hashes, tells_marks}
+use Rattle.rds_session.specs.Versions.{delta_format, says_hashes, tells_marks}
 
 abbrev pub IsBeginningOf : List ℕ → List ℕ → Type 0
 IsBeginningOf x y = (rest : List ℕ) × (y ≡ x ++ rest)
 
 -- what one tells the other, in a version, is within the limit: also its digest as it says it first, and behind the other's
-pub record HasRoom (version : Version) (from to : ReplicaValue) : Type 0 where
+pub record FitsMessages (version : Version) (from to : ReplicaValue) : Type 0 where
   pub hello : length (hello_message from version) ≤ MESSAGE_LIMIT
   pub first : length (digest_said (says_hashes version) version from) ≤ MESSAGE_LIMIT
   pub digest : length (digest_message version from) ≤ MESSAGE_LIMIT
   pub behind : length (behind_message version from (digest_of to.state)) ≤ MESSAGE_LIMIT
-  pub delta : length (delta_message from (format_of version) to.own (digest_of to.state)) ≤ MESSAGE_LIMIT
+  pub delta : length (delta_message from (delta_format version) to.own (digest_of to.state)) ≤ MESSAGE_LIMIT
 
 -- two replicas, of rosters one of which begins the other, with different own numbers, each of which has a text; they
 -- speak in a version
@@ -50,8 +50,8 @@ pub record CanMeet (version : Version) (a b : ReplicaValue) : Type 0 where
   pub others : a.own ≢ b.own
   pub a_text : IsSnapshot a
   pub b_text : IsSnapshot b
-  pub a_room : HasRoom version a b
-  pub b_room : HasRoom version b a
+  pub a_room : FitsMessages version a b
+  pub b_room : FitsMessages version b a
 
 -- a delta that is the least of what the peer kept against what was kept here, and the peer's roster exactly where that
 -- has more names
@@ -132,7 +132,7 @@ share_digest version from to = says_hashes version && bytes_eq (digest_hash (dig
 abbrev pub words_with : List (List ℕ) → Version → ReplicaValue → ReplicaValue → List (List ℕ)
 words_with said version from to =
     hello_message from version
-    ∷ (said ++ (delta_message from (format_of version) to.own (digest_of to.state) ∷ done_message (last_mark version from to) ∷ []))
+    ∷ (said ++ (delta_message from (delta_format version) to.own (digest_of to.state) ∷ done_message (last_mark version from to) ∷ []))
 
 -- a client says it by a hash, where the version has them, and whole where there are none or behind another one of the
 -- server's

@@ -24,12 +24,12 @@ use Rattle.rds_session.specs.Versions.{says_briefs, version_byte}
 use Rattle.rds_session.specs.Wants.{said_behind}
 
 -- the byte that messages of a type begin with
-abbrev pub number_of : MessageKind → ℕ
-number_of kinds.Hello = 1
-number_of kinds.Digest = 2
-number_of kinds.Delta = 3
-number_of kinds.Bye = 4
-number_of kinds.Hash = 5
+abbrev pub type_byte : MessageKind → ℕ
+type_byte kinds.Hello = 1
+type_byte kinds.Digest = 2
+type_byte kinds.Delta = 3
+type_byte kinds.Bye = 4
+type_byte kinds.Hash = 5
 
 -- the type that a byte says
 abbrev pub kind_of : ℕ → Option MessageKind
@@ -44,7 +44,7 @@ kind_of n =
 -- HELLO: who speaks, and in which version
 abbrev pub hello_message : ReplicaValue → Version → List ℕ
 hello_message kept version =
-    number_of kinds.Hello ∷ hello_text (record { version = version_byte version; roster = kept.roster; own = kept.own })
+    type_byte kinds.Hello ∷ hello_text (record { version = version_byte version; roster = kept.roster; own = kept.own })
 
 -- a digest whole, as a version says it: its brief or its text
 abbrev pub digest_body : Version → DigestValue → List ℕ
@@ -52,17 +52,17 @@ digest_body version digest = if says_briefs version then brief_text digest else 
 
 -- DIGEST: what is kept here
 abbrev pub digest_message : Version → ReplicaValue → List ℕ
-digest_message version kept = number_of kinds.Digest ∷ digest_body version (digest_of kept.state)
+digest_message version kept = type_byte kinds.Digest ∷ digest_body version (digest_of kept.state)
 
 -- the same, to a peer whose digest is known
 abbrev pub behind_message : Version → ReplicaValue → DigestValue → List ℕ
-behind_message version kept peer = number_of kinds.Digest ∷ digest_body version (said_behind version (digest_of kept.state) peer)
+behind_message version kept peer = type_byte kinds.Digest ∷ digest_body version (said_behind version (digest_of kept.state) peer)
 
 -- HASH: the same, by the hash of the digest's text. Where that is over the limit there is none, and it can't be said
 abbrev pub hash_message : ReplicaValue → List ℕ
 hash_message kept =
     let digest = digest_of kept.state in
-    if nat_lt LIMIT (length (digest_text digest)) then number_of kinds.Digest ∷ digest_text digest else number_of kinds.Hash ∷ digest_hash digest
+    if nat_lt LIMIT (length (digest_text digest)) then type_byte kinds.Digest ∷ digest_text digest else type_byte kinds.Hash ∷ digest_hash digest
 
 -- what is kept here, by a hash or whole
 abbrev pub digest_said : Bool → Version → ReplicaValue → List ℕ
@@ -72,7 +72,7 @@ digest_said hashed version kept = if hashed then hash_message kept else digest_m
 abbrev pub delta_message : ReplicaValue → Format → ℕ → DigestValue → List ℕ
 delta_message kept format asker digest =
     let delta = least_state kept.state digest in
-    number_of kinds.Delta ∷ answer_text_in format (answer asker delta (certificate_of digest delta))
+    type_byte kinds.Delta ∷ answer_text_in format (answer asker delta (certificate_of digest delta))
 
 -- the byte of a BYE
 abbrev pub byte_of : ByeCode → ℕ
@@ -98,12 +98,12 @@ bye_of b =
 
 -- BYE: the end, and why
 abbrev pub bye_message : ByeCode → List ℕ
-bye_message code = number_of kinds.Bye ∷ byte_of code ∷ []
+bye_message code = type_byte kinds.Bye ∷ byte_of code ∷ []
 
 -- the last BYE of a session that is done, with the mark of what is held then, where one is told
 abbrev pub done_message : Option Mark → List ℕ
 done_message None = bye_message byes.Done
-done_message (Some mark) = number_of kinds.Bye ∷ byte_of byes.Done ∷ mark_bytes mark
+done_message (Some mark) = type_byte kinds.Bye ∷ byte_of byes.Done ∷ mark_bytes mark
 
 -- the code of the BYE that a refusal sends
 abbrev pub code_of : Fault → ByeCode
@@ -115,9 +115,9 @@ code_of Memory = byes.OwnFault
 code_of _ = byes.Refused
 
 -- what a BYE that isn't the last message ends the session with
-abbrev pub fault_of : ByeCode → Fault
-fault_of byes.WrongVersion = WrongVersion
-fault_of byes.WrongGroup = WrongGroup
-fault_of byes.WrongRoster = WrongRoster
-fault_of byes.SameReplica = SameReplica
-fault_of _ = PeerEnded
+abbrev pub bye_fault : ByeCode → Fault
+bye_fault byes.WrongVersion = WrongVersion
+bye_fault byes.WrongGroup = WrongGroup
+bye_fault byes.WrongRoster = WrongRoster
+bye_fault byes.SameReplica = SameReplica
+bye_fault _ = PeerEnded

@@ -27,9 +27,9 @@ abbrev pub delta_of : Option Delivery → Option StateValue
 delta_of None = None
 delta_of (Some d) = Some d.0
 
-abbrev pub roster_of : Option Delivery → Option RosterValue
-roster_of None = None
-roster_of (Some d) = d.1
+abbrev pub roster_received : Option Delivery → Option RosterValue
+roster_received None = None
+roster_received (Some d) = d.1
 
 -- the own roster begins the other, which has more names
 pub record IsLonger (own other : RosterValue) : Type 0 where

@@ -12,6 +12,6 @@ IsScan expected wanted (code.Whole message rest) = (wanted ≡ Whole message.cam
 IsScan expected wanted code.Long = wanted ≡ Long
 
 -- a whole message is within the limit
-abbrev pub IsWithin : {S : Type 0} → Scanned S → Type 0
-IsWithin (code.Whole message rest) = length message.came ≤ MESSAGE_LIMIT
-IsWithin _ = Unit {0}
+abbrev pub MessageIsWithin : {S : Type 0} → Scanned S → Type 0
+MessageIsWithin (code.Whole message rest) = length message.came ≤ MESSAGE_LIMIT
+MessageIsWithin _ = Unit {0}

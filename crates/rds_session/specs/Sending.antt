@@ -8,7 +8,7 @@ use Rattle.rds_codec.specs.Exchanged.{IsLost}
 use Rattle.rds_codec.specs.declared.limits.TheConstants.{LIMIT}
 use Rattle.rds_session.specs.declared.kinds.MessageKind.{MessageKind}
 use Rattle.rds_session.specs.Chunks.{message_in_chunks}
-use Rattle.rds_session.specs.Messages.{number_of}
+use Rattle.rds_session.specs.Messages.{type_byte}
 
 abbrev pub then_sent : List ℕ → List ℕ × Bool → List ℕ × Bool
 then_sent bytes p = (bytes ++ p.0, p.1)
@@ -30,7 +30,7 @@ IsTextOrLost text body = MatchResult body (λ v. (v.items ≡ text) × (length t
 
 -- the same of a message whose body was made, or is over the limit itself
 abbrev pub SendsBody : List ℕ → List ℕ → MessageKind → Result (Vec ℕ) Fault → Result Bool Fault → Type 0
-SendsBody old new kind body result = (text : List ℕ) → IsTextOrLost text body → SendsOne old new (number_of kind ∷ text) result
+SendsBody old new kind body result = (text : List ℕ) → IsTextOrLost text body → SendsOne old new (type_byte kind ∷ text) result
 
 -- messages were added, or those before the first that is over the limit
 abbrev pub SendsAll : List ℕ → List ℕ → List (List ℕ) → Result Bool Fault → Type 0

@@ -12,7 +12,7 @@ use Rattle.rds_session.specs.declared.step.Ended.{Ended}
 use Rattle.rds_session.specs.declared.step.Ended.TheVariants.{Going, Done, Failed}
 use Rattle.rds_session.specs.Chunks.{Under, start, message_in_chunks, Scan, More, Whole, Long, byte_scanned}
 use Rattle.rds_session.specs.Messages.{hello_message, digest_said, bye_message, code_of}
-use Rattle.rds_session.specs.Judging.{Awaited, ForHello, Said, Receives, Finishes, Forks, verdict, turn_after, replies_of}
+use Rattle.rds_session.specs.Judging.{Awaited, ForHello, Said, Receives, Finishes, Forks, verdict, awaited_after, replies_of}
 use Rattle.rds_session.specs.Received.{Delivery}
 use Rattle.rds_session.specs.Sending.{sending}
 use Rattle.rds_session.specs.Versions.{says_hashes}
@@ -73,7 +73,7 @@ ended_after ended Forks = Failed Forked
 ended_after ended _ = ended
 
 abbrev pub after_said : Standing → Said → Standing
-after_said s said = record s { turn = turn_after s.turn said; received = received_after s.received said; ended = ended_after s.ended said }
+after_said s said = record s { turn = awaited_after s.turn said; received = received_after s.received said; ended = ended_after s.ended said }
 
 abbrev pub after_verdict : Standing → Result Said Stop → Sent
 after_verdict s (Ok said) = sends (after_said s said) (replies_of s.side s.kept s.turn said)

@@ -38,7 +38,7 @@ IsLastWord sent = (sent ≡ []) ⊎ (sent ≡ message_in_chunks (bye_message bye
 
 -- a session that has the standing of a stream has that of the longer stream, and sends what is sent for it beyond
 -- what is sent for the shorter one
-pub record GoesOn (side : Side) (kept : ReplicaValue) (heard : Heard) (input : Option (List ℕ)) (new : Standing) (sent : List ℕ) : Type 0 where
+pub record FollowsStream (side : Side) (kept : ReplicaValue) (heard : Heard) (input : Option (List ℕ)) (new : Standing) (sent : List ℕ) : Type 0 where
   pub standing : HasStanding side kept (heard_more heard input) new
   pub beyond : (course side kept (heard_more heard input)).1 ≡ (course side kept heard).1 ++ sent
 
@@ -54,7 +54,7 @@ pub record RanOut (side : Side) (kept : ReplicaValue) (heard : Heard) (input : O
   pub last_word : IsLastWord sent
 
 abbrev pub Continues : Side → ReplicaValue → Heard → Option (List ℕ) → Standing → List ℕ → Type 0
-Continues side kept heard input new sent = GoesOn side kept heard input new sent ⊎ RanOut side kept heard input new sent
+Continues side kept heard input new sent = FollowsStream side kept heard input new sent ⊎ RanOut side kept heard input new sent
 
 -- the session has ended
 abbrev pub IsOver : Ended → Type 0
@@ -69,8 +69,8 @@ IsNoDevice _ = Unit {0}
 -- ---- the parts of a step
 
 -- a standing became the next one, and what it sends was added; or memory ran out, and what was received stayed
-abbrev pub Does : {T : Type 0} → Standing → List ℕ → Standing → List ℕ → Result T Fault → (Standing → Sent) → Type 0
-Does old sent new more result go = MatchResult result
+abbrev pub TakesStep : {T : Type 0} → Standing → List ℕ → Standing → List ℕ → Result T Fault → (Standing → Sent) → Type 0
+TakesStep old sent new more result go = MatchResult result
     (λ _. (new ≡ (go old).0) × (more ≡ sent ++ (go old).1))
     (λ e. (e ≡ Memory) × (new.received ≡ old.received))
 
@@ -100,18 +100,18 @@ abbrev pub TakesNoMemory : Standing → Option (List ℕ) → Type 0
 TakesNoMemory old input = (piece_of input ≡ []) × ((old.begun ≡ true) ⊎ (old.side ≡ Server))
 
 -- a step takes memory only where bytes come, or a client begins
-abbrev pub TakesMemory : Standing → Option (List ℕ) → Type 0
-TakesMemory old input = TakesNoMemory old input → ⊥
+abbrev pub StepTakesMemory : Standing → Option (List ℕ) → Type 0
+StepTakesMemory old input = TakesNoMemory old input → ⊥
 
 -- bytes or the end came, after the opening; or memory ran out with what was received after a front of them
 abbrev pub Works : {T : Type 0} → Standing → List ℕ → Option (List ℕ) → Standing → List ℕ → Result T Fault → Type 0
 Works old sent input new more result = MatchResult result
     (λ _. (new ≡ (then_more (after_opening old) (after_input input)).0) × (more ≡ sent ++ (then_more (after_opening old) (after_input input)).1))
-    (λ e. (e ≡ Memory) × ReceivedOnTheWay (after_opening old).0 (piece_of input) new.received × TakesMemory old input)
+    (λ e. (e ≡ Memory) × ReceivedOnTheWay (after_opening old).0 (piece_of input) new.received × StepTakesMemory old input)
 
 abbrev pub RunsOut : Standing → Option (List ℕ) → Standing → List ℕ → Type 0
 RunsOut old input new sent =
-    (old.ended ≡ Going) × (new.ended ≡ Failed Memory) × ReceivedOnTheWay (after_opening old).0 (piece_of input) new.received × IsLastWord sent × TakesMemory old input
+    (old.ended ≡ Going) × (new.ended ≡ Failed Memory) × ReceivedOnTheWay (after_opening old).0 (piece_of input) new.received × IsLastWord sent × StepTakesMemory old input
 
 -- the step was taken; or memory ran out in it
 abbrev pub Steps : Standing → Option (List ℕ) → Standing → List ℕ → Type 0

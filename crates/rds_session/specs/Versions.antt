@@ -25,12 +25,12 @@ version_said b =
     else None))))
 
 -- the format of its deltas
-abbrev pub format_of : Version → Format
-format_of One = formats.One
-format_of Two = formats.Two
-format_of Three = formats.Two
-format_of Four = formats.Two
-format_of Five = formats.Two
+abbrev pub delta_format : Version → Format
+delta_format One = formats.One
+delta_format Two = formats.Two
+delta_format Three = formats.Two
+delta_format Four = formats.Two
+delta_format Five = formats.Two
 
 -- whether each side tells the mark of what it holds at the end
 abbrev pub tells_marks : Version → Bool
@@ -52,4 +52,4 @@ says_briefs _ = false
 
 -- a HELLO's body behind its version, as a hello of the version's format
 abbrev pub as_hello : Version → List ℕ → List ℕ
-as_hello version body = version_of (format_of version) ∷ body
+as_hello version body = version_of (delta_format version) ∷ body

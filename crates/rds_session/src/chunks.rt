@@ -2,7 +2,7 @@
 //! of length 0.
 ghost use Rattle.std.specs.Prelude.{◌≡◌, IfOk, IfErr};
 ghost use Rattle.rds_names.specs.declared.fault.Fault.TheVariants.{Memory};
-ghost use Rattle.rds_session.specs.Chunks.{place_of};
+ghost use Rattle.rds_session.specs.Chunks.{place_left};
 
 use crate::content::Expected;
 use crate::message::Message;
@@ -70,7 +70,7 @@ pub enum Scanned<'a, S: DotSet> {
 
 // Where the next byte stands once so many bytes of a chunk are still to come.
 fn place_of(left: u16) -> Place
-    ensures { result ≡ place_of left }
+    ensures { result ≡ place_left left }
 {
     if left == 0 {
         Place::First
@@ -81,7 +81,7 @@ fn place_of(left: u16) -> Place
 
 impl<S: DotSet> Chunks<S> {
     ghost use Rattle.rds_session.specs.Chunks.{start, scan};
-    ghost use Rattle.rds_session.specs.Scanning.{IsScan, IsWithin};
+    ghost use Rattle.rds_session.specs.Scanning.{IsScan, MessageIsWithin};
 
     /// Nothing of a message. Takes no memory.
     pub fn new(expected: Expected) -> Chunks<S>
@@ -98,7 +98,7 @@ impl<S: DotSet> Chunks<S> {
     #[tactic(auto, unfolding(crate::specs::Chunks::scan))]
     pub fn take<'a>(self, alloc: Global, piece: &'a [u8]) -> Result<Scanned<'a, S>, Fault>
         ensures ok { IfOk result (IsScan self.expected (scan piece.now self.under)) }
-        ensures within { IfOk result IsWithin }
+        ensures within { IfOk result MessageIsWithin }
         ensures err { IfErr result (λ e. e ≡ Memory) }
     {
         let Chunks {

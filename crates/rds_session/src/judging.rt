@@ -21,7 +21,7 @@ ghost use Rattle.rds_session.specs.Judging.{
   verdict,
   wait_of,
 };
-ghost use Rattle.rds_session.specs.Versions.{format_of};
+ghost use Rattle.rds_session.specs.Versions.{delta_format};
 ghost use Rattle.rds_session.specs.Wants.{heard_behind};
 ghost use Rattle.rds_answers.specs.Checked.{passes};
 ghost use Rattle.rds_session.specs.Received.{Brings, KnowsPeer, IsLongerIfThere};
@@ -30,7 +30,7 @@ ghost use Rattle.rds_delta.specs.Least.{IsAbove};
 ghost use Rattle.rds_delta.specs.Ranks.{ranks};
 ghost use Rattle.rds_state.specs.Fits.{ReplicaValue};
 ghost use Rattle.rds_state.specs.Value.{coordinates};
-ghost use Rattle.rds_session.specs.Messages.{fault_of};
+ghost use Rattle.rds_session.specs.Messages.{bye_fault};
 ghost use Rattle.rds_session.specs.declared.talk.Stop.TheVariants.{Left, Refused};
 
 use crate::content::{Content, Expected};
@@ -50,7 +50,7 @@ use std::alloc::Global;
 
 // What a BYE that isn't the last message ends the session with.
 fn fault_of(code: ByeCode) -> Fault
-    ensures value { result ≡ fault_of code }
+    ensures value { result ≡ bye_fault code }
     ensures known { StopsByNoDevice (Left result) }
 {
     match code {
@@ -249,7 +249,7 @@ fn judge_delta<S: DotSet>(
     ensures known { IfErr result StopsByNoDevice }
     ensures judges { Judges result (delta_judged kept.now peer.now answer) }
     ensures brings { (turn : Awaited) → IsLongerIfThere kept.now.roster peer.now.roster
-        → IsRead (format_of peer.now.version) (replicas_of kept.now peer.now.roster) answer → IfOk result (Brings kept.now turn) }
+        → IsRead (delta_format peer.now.version) (replicas_of kept.now peer.now.roster) answer → IfOk result (Brings kept.now turn) }
 {
     if answer.asker != kept.own() {
         return Err(Stop::Refused(Fault::WrongAsker));

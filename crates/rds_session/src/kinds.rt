@@ -1,6 +1,6 @@
 //! What messages begin with, and what a BYE says.
 ghost use Rattle.std.specs.Prelude.{◌≡◌};
-ghost use Rattle.rds_session.specs.Messages.{bye_of, byte_of, kind_of, number_of};
+ghost use Rattle.rds_session.specs.Messages.{bye_of, byte_of, kind_of, type_byte};
 
 /// The type of a message.
 #[derive(Clone, Copy, Debug, PartialEq, Eq)]
@@ -20,7 +20,7 @@ pub enum MessageKind {
 impl MessageKind {
     /// The byte that messages of this type begin with.
     pub fn number(self) -> u8
-        ensures { result ≡ number_of self }
+        ensures { result ≡ type_byte self }
     {
         match self {
             MessageKind::Hello => 1,

@@ -6,7 +6,7 @@ ghost use Rattle.rds_bytes.specs.Reading.{ReadsExactly};
 ghost use Rattle.rds_counts.specs.Drawn.{greater, greatest_rows};
 ghost use Rattle.rds_delta.specs.Least.{IsAbove};
 ghost use Rattle.rds_delta.specs.Ranks.{ranks};
-ghost use Rattle.rds_session.specs.Marked.{mark_in, told_mark, with_delta};
+ghost use Rattle.rds_session.specs.Marked.{mark_read, told_mark, with_delta};
 ghost use Rattle.rds_state.specs.Mark.{count_mark, mark_of, no_mark, plus_count, plus_live};
 ghost use Rattle.rds_state.specs.Value.{coordinates};
 
@@ -24,7 +24,7 @@ pub const MARK_LENGTH: usize = 16;
 
 /// The mark that these bytes are.
 pub fn read_mark(bytes: &[u8]) -> Result<Mark, Fault>
-    ensures { ReadsExactly (λ m. m) result (mark_in bytes.now) }
+    ensures { ReadsExactly (λ m. m) result (mark_read bytes.now) }
 {
     if MARK_LENGTH < bytes.len() {
         return Err(Fault::Extra);

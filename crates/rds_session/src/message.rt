@@ -8,10 +8,10 @@ ghost use Rattle.rds_session.specs.declared.content.Expected.{Expected};
 ghost use Rattle.rds_session.specs.declared.content.Expected.TheVariants as expecteds;
 ghost use Rattle.rds_session.specs.declared.kinds.ByeCode.TheVariants as byes;
 ghost use Rattle.rds_session.specs.declared.kinds.MessageKind.TheVariants as kinds;
-ghost use Rattle.rds_session.specs.Begun.{Holds, HoldsBody};
+ghost use Rattle.rds_session.specs.Begun.{HoldsBegun, HoldsBody};
 ghost use Rattle.rds_session.specs.Contents.{content_value, expects_hash, expects_mark, message_read};
 ghost use Rattle.rds_session.specs.Judging.{is_done, version_with};
-ghost use Rattle.rds_session.specs.Messages.{bye_of, number_of};
+ghost use Rattle.rds_session.specs.Messages.{bye_of, type_byte};
 ghost use Rattle.rds_session.specs.Versions.{says_briefs};
 ghost use Rattle.rds_session.specs.declared.version.Version.{Version};
 
@@ -74,7 +74,7 @@ impl<S: DotSet> Drop for Body<S> {
 
 // What a HELLO is with the first bytes of its body. Another version is refused whatever follows it.
 fn greeting<S: DotSet>(alloc: Global, side: Side, run: &[u8]) -> Result<Body<S>, Fault>
-    ensures ok { IfOk result (λ new. HoldsBody (expecteds.Hello side) new (number_of kinds.Hello ∷ run.now)) }
+    ensures ok { IfOk result (λ new. HoldsBody (expecteds.Hello side) new (type_byte kinds.Hello ∷ run.now)) }
     ensures memory { IfErr result (λ e. e ≡ Memory) }
 {
     match run {
@@ -89,7 +89,7 @@ fn greeting<S: DotSet>(alloc: Global, side: Side, run: &[u8]) -> Result<Body<S>,
 // What a HELLO of this version is with the next bytes: they are read as those of a hello of the version's format.
 fn hello<S: DotSet>(alloc: Global, version: Version, run: &[u8]) -> Result<Body<S>, Fault>
     ensures ok { IfOk result (λ new. (side : Side) (byte : ℕ) → version_with side byte ≡ Some version
-        → HoldsBody (expecteds.Hello side) new (number_of kinds.Hello ∷ byte ∷ run.now)) }
+        → HoldsBody (expecteds.Hello side) new (type_byte kinds.Hello ∷ byte ∷ run.now)) }
     ensures memory { IfErr result (λ e. e ≡ Memory) }
 {
     let begun = Coming::new(alloc, Format::Two, 0).add(&[version.format().version()])?;
@@ -99,7 +99,7 @@ fn hello<S: DotSet>(alloc: Global, version: Version, run: &[u8]) -> Result<Body<
 // What a BYE is with the first bytes of its body, which begins with its code.
 fn parting<S: DotSet>(alloc: Global, marked: bool, run: &[u8]) -> Result<Body<S>, Fault>
     ensures ok { IfOk result (λ new. (expected : Expected) → expects_mark expected ≡ marked
-        → HoldsBody expected new (number_of kinds.Bye ∷ run.now)) }
+        → HoldsBody expected new (type_byte kinds.Bye ∷ run.now)) }
     ensures memory { IfErr result (λ e. e ≡ Memory) }
 {
     match run {
@@ -116,7 +116,7 @@ fn parting<S: DotSet>(alloc: Global, marked: bool, run: &[u8]) -> Result<Body<S>
 fn parted<S: DotSet>(code: ByeCode, run: &[u8]) -> Body<S>
     ensures { (expected : Expected) (byte : ℕ) → bye_of byte ≡ Some code
         → expects_mark expected && is_done code ≡ false
-        → HoldsBody expected result (number_of kinds.Bye ∷ byte ∷ run.now) }
+        → HoldsBody expected result (type_byte kinds.Bye ∷ byte ∷ run.now) }
 {
     match run {
         [] => Body::Bye(code),
@@ -128,7 +128,7 @@ fn parted<S: DotSet>(code: ByeCode, run: &[u8]) -> Body<S>
 fn marking<S: DotSet>(bytes: Vec<u8>, run: &[u8]) -> Result<Body<S>, Fault>
     ensures ok { IfOk result (λ new. (expected : Expected) (byte : ℕ) → bye_of byte ≡ Some byes.Done
         → expects_mark expected ≡ true
-        → HoldsBody expected new (number_of kinds.Bye ∷ byte ∷ (bytes.items ++ run.now))) }
+        → HoldsBody expected new (type_byte kinds.Bye ∷ byte ∷ (bytes.items ++ run.now))) }
     ensures memory { IfErr result (λ e. e ≡ Memory) }
 {
     if MARK_LENGTH.saturating_sub(bytes.len()) < run.len() {
@@ -142,7 +142,7 @@ fn marking<S: DotSet>(bytes: Vec<u8>, run: &[u8]) -> Result<Body<S>, Fault>
 // What a HASH, of which these bytes have come, is with the next ones.
 fn hashing<S: DotSet>(bytes: Vec<u8>, run: &[u8]) -> Result<Body<S>, Fault>
     ensures ok { IfOk result (λ new. (expected : Expected) → expects_hash expected ≡ true
-        → HoldsBody expected new (number_of kinds.Hash ∷ (bytes.items ++ run.now))) }
+        → HoldsBody expected new (type_byte kinds.Hash ∷ (bytes.items ++ run.now))) }
     ensures memory { IfErr result (λ e. e ≡ Memory) }
 {
     if HASH_LENGTH.saturating_sub(bytes.len()) < run.len() {
@@ -156,7 +156,7 @@ fn hashing<S: DotSet>(bytes: Vec<u8>, run: &[u8]) -> Result<Body<S>, Fault>
 // What a DIGEST, of which these bytes of a brief have come, is with the next ones.
 fn briefing<S: DotSet>(replicas: u16, bytes: Vec<u8>, run: &[u8]) -> Result<Body<S>, Fault>
     ensures ok { IfOk result (λ new. (version : Version) (hashed : Bool) → says_briefs version ≡ true
-        → HoldsBody (expecteds.Digest version replicas hashed) new (number_of kinds.Digest ∷ (bytes.items ++ run.now))) }
+        → HoldsBody (expecteds.Digest version replicas hashed) new (type_byte kinds.Digest ∷ (bytes.items ++ run.now))) }
     ensures memory { IfErr result (λ e. e ≡ Memory) }
 {
     let mut bytes = bytes;
@@ -166,7 +166,7 @@ fn briefing<S: DotSet>(replicas: u16, bytes: Vec<u8>, run: &[u8]) -> Result<Body
 
 // What a DIGEST in a version is, of whose body no byte has come.
 fn digest<S: DotSet>(alloc: Global, version: Version, replicas: u16) -> Body<S>
-    ensures { (hashed : Bool) → HoldsBody (expecteds.Digest version replicas hashed) result (number_of kinds.Digest ∷ []) }
+    ensures { (hashed : Bool) → HoldsBody (expecteds.Digest version replicas hashed) result (type_byte kinds.Digest ∷ []) }
 {
     if version.says_briefs() {
         Body::Brief {
@@ -262,8 +262,8 @@ fn with_run<S: DotSet>(
     body: Option<Body<S>>,
     run: &[u8],
 ) -> Result<Option<Body<S>>, Fault>
-    ensures ok { IfOk result (λ new. (came : List ℕ) → Holds expected body came
-        → Holds expected new (came ++ run.now)) }
+    ensures ok { IfOk result (λ new. (came : List ℕ) → HoldsBegun expected body came
+        → HoldsBegun expected new (came ++ run.now)) }
     ensures memory { IfErr result (λ e. e ≡ Memory) }
 {
     match body {
@@ -301,13 +301,13 @@ impl<S: DotSet> Drop for Message<S> {
 
 impl<S: DotSet> Model for Message<S> {
     ghost use Rattle.rds_keep.specs.Feeding.{AreBytes};
-    ghost use Rattle.rds_session.specs.Begun.{Holds, MessageValue};
+    ghost use Rattle.rds_session.specs.Begun.{HoldsBegun, MessageValue};
 
     ghost Value = { MessageValue };
 
     ghost view = { λ m. record { expected = m.expected; came = m.came.bytes } };
 
-    ghost invariant = { λ m. Holds m.expected m.body m.came.bytes × AreBytes m.came.bytes };
+    ghost invariant = { λ m. HoldsBegun m.expected m.body m.came.bytes × AreBytes m.came.bytes };
 }
 
 impl<S: DotSet> Message<S> {

@@ -11,7 +11,7 @@ ghost use Rattle.rds_session.specs.Messages.{
   hash_message,
   hello_message,
 };
-ghost use Rattle.rds_session.specs.Versions.{format_of};
+ghost use Rattle.rds_session.specs.Versions.{delta_format};
 ghost use Rattle.rds_session.specs.Sending.{SendsBody, SendsOne, SendsAll};
 ghost use Rattle.rds_session.specs.Session.{opening};
 
@@ -122,7 +122,7 @@ fn send_delta<S: DotSet>(
     digest: &Digest<S>,
 ) -> Result<bool, Fault>
     ensures { SendsOne send.old.items send.new.items
-        (delta_message kept.now (format_of peer.now.version) peer.now.number digest.now) result }
+        (delta_message kept.now (delta_format peer.now.version) peer.now.number digest.now) result }
 {
     let format = peer.version.format();
     let answered = answer_in(alloc, format, peer.number, kept.state(), digest);
@@ -198,7 +198,7 @@ fn answer_delta<S: DotSet>(
     mark: Option<Mark>,
 ) -> Result<bool, Fault>
     ensures { SendsAll send.old.items send.new.items
-        (delta_message kept.now (format_of peer.now.version) peer.now.number digest.now ∷ done_message mark ∷ []) result }
+        (delta_message kept.now (delta_format peer.now.version) peer.now.number digest.now ∷ done_message mark ∷ []) result }
 {
     if !send_delta(alloc, send, kept, peer, digest)? {
         return Ok(false);

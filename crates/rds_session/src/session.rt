@@ -94,10 +94,10 @@ impl<'a, S: DotSet> Session<'a, S> {
     ghost use Rattle.rds_session.specs.Chunks.{start};
     ghost use Rattle.rds_session.specs.Contents.{expected_of};
     ghost use Rattle.rds_session.specs.Judging.{StopsByNoDevice, saying_of};
-    ghost use Rattle.rds_session.specs.Received.{Brings, HasChecked, IsDoneBy, IsLongerIfThere, delta_of, roster_of};
+    ghost use Rattle.rds_session.specs.Received.{Brings, HasChecked, IsDoneBy, IsLongerIfThere, delta_of, roster_received};
     ghost use Rattle.rds_session.specs.declared.talk.Stop.TheVariants.{Refused};
     ghost use Rattle.rds_session.specs.Session.{failure, after_said, refuses, after_verdict, message_comes, after_opening, after_step, cut_off, Heard, Nothing};
-    ghost use Rattle.rds_session.specs.Steps.{came, TakesNoMemory, Continues, Does, HasStanding, IsLastWord, IsNoDevice, IsOver, Ran, Runs, Steps, Works};
+    ghost use Rattle.rds_session.specs.Steps.{came, TakesNoMemory, Continues, TakesStep, HasStanding, IsLastWord, IsNoDevice, IsOver, Ran, Runs, Steps, Works};
 
     /// A session that hasn't begun. Takes no memory.
     #[tactic(auto, unfolding(crate::specs::Session::course))]
@@ -132,8 +132,8 @@ impl<'a, S: DotSet> Session<'a, S> {
     /// components of replicas that the own roster doesn't name yet, so the own roster grows to it first. Takes no
     /// memory.
     pub fn roster(&self) -> Option<&Roster>
-        ensures roster { option_copied result ≡ roster_of self.now.received }
-        ensures longer { IsLongerIfThere self.now.kept.roster (roster_of self.now.received) }
+        ensures roster { option_copied result ≡ roster_received self.now.received }
+        ensures longer { IsLongerIfThere self.now.kept.roster (roster_received self.now.received) }
     {
         match &self.received {
             None => None,
@@ -237,7 +237,7 @@ impl<'a, S: DotSet> Session<'a, S> {
 
     #[tactic(auto, unfolding(crate::specs::Session::after_opening), using(crate::proofs::Moves::all_sent, crate::proofs::Moves::some_sent),)]
     fn open(&mut self, alloc: Global, send: &mut Vec<u8>) -> Result<(), Fault>
-        ensures does { Does self.old send.old.items self.new send.new.items result after_opening }
+        ensures does { TakesStep self.old send.old.items self.new send.new.items result after_opening }
         ensures begins { OnErr result ((self.old.begun ≡ false) × (self.old.side ≢ Server)) }
         ensures known { OnOk result (IsNoDevice self.old.ended → IsNoDevice self.new.ended) }
         ensures kept { self.new.kept ≡ self.old.kept }
@@ -330,7 +330,7 @@ impl<'a, S: DotSet> Session<'a, S> {
     ) -> Result<(), Fault>
         requires within { length message.came ≤ MESSAGE_LIMIT }
         requires expected { message.expected ≡ expected_of self.old.kept self.old.turn }
-        ensures does { Does (record self.old { under = start }) send.old.items self.new send.new.items result
+        ensures does { TakesStep (record self.old { under = start }) send.old.items self.new send.new.items result
             (λ s. message_comes s message.came) }
         ensures known { OnOk result (IsNoDevice self.old.ended → IsNoDevice self.new.ended) }
         ensures kept { self.new.kept ≡ self.old.kept }
@@ -352,7 +352,7 @@ impl<'a, S: DotSet> Session<'a, S> {
     #[tactic(auto, using(crate::proofs::Moves::all_sent, crate::proofs::Moves::some_sent))]
     fn answer(&mut self, alloc: Global, act: Act<S>, send: &mut Vec<u8>) -> Result<(), Fault>
         requires { Brings self.old.kept self.old.turn act }
-        ensures does { Does (record self.old { under = start }) send.old.items self.new send.new.items result
+        ensures does { TakesStep (record self.old { under = start }) send.old.items self.new send.new.items result
             (λ s. after_verdict s (Ok (saying_of act))) }
         ensures known { OnOk result (IsNoDevice self.old.ended → IsNoDevice self.new.ended) }
         ensures kept { self.new.kept ≡ self.old.kept }
@@ -398,7 +398,7 @@ impl<'a, S: DotSet> Session<'a, S> {
 
     // Refuses with a BYE.
     fn refuse(&mut self, fault: Fault, send: &mut Vec<u8>) -> Result<(), Fault>
-        ensures does { Does self.old send.old.items self.new send.new.items result (λ s. refuses s fault) }
+        ensures does { TakesStep self.old send.old.items self.new send.new.items result (λ s. refuses s fault) }
         ensures known { OnOk result (StopsByNoDevice (Refused fault) → IsNoDevice self.new.ended) }
         ensures kept { self.new.kept ≡ self.old.kept }
     {

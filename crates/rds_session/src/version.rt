@@ -1,6 +1,6 @@
 //! The versions of a session.
 ghost use Rattle.std.specs.Prelude.{◌≡◌};
-ghost use Rattle.rds_session.specs.Versions.{format_of, says_briefs, says_hashes, tells_marks, version_byte, version_said};
+ghost use Rattle.rds_session.specs.Versions.{delta_format, says_briefs, says_hashes, tells_marks, version_byte, version_said};
 
 use rds_codec::Format;
 
@@ -50,7 +50,7 @@ impl Version {
 
     /// The format of its deltas.
     pub fn format(self) -> Format
-        ensures { result ≡ format_of self }
+        ensures { result ≡ delta_format self }
     {
         match self {
             Version::One => Format::One,

@@ -2,7 +2,7 @@
 ghost use Rattle.std.specs.Prelude.{◌≡◌, ◌++◌, ◌∷◌, ◌<◌, length, OnOk, IfErr};
 ghost use Rattle.rds_names.specs.declared.fault.Fault.TheVariants.{Memory};
 ghost use Rattle.rds_session.specs.Chunks.{message_in_chunks, chunk_text};
-ghost use Rattle.rds_session.specs.Messages.{number_of};
+ghost use Rattle.rds_session.specs.Messages.{type_byte};
 ghost use Rattle.rds_session.specs.Sending.{SendsOne};
 
 use crate::chunks::MESSAGE_LIMIT;
@@ -26,7 +26,7 @@ fn put_chunk(send: &mut Vec<u8>, chunk: &[u8]) -> Result<(), Fault>
 // The chunk that begins with the message's type.
 fn put_first(send: &mut Vec<u8>, kind: MessageKind, front: &[u8]) -> Result<(), Fault>
     requires { length front.now < 65535 }
-    ensures ok { OnOk result (send.new.items ≡ send.old.items ++ chunk_text (number_of kind ∷ front.now)) }
+    ensures ok { OnOk result (send.new.items ≡ send.old.items ++ chunk_text (type_byte kind ∷ front.now)) }
     ensures err { IfErr result (λ e. e ≡ Memory) }
 {
     let length = (front.len() as u16 + 1).to_be_bytes();
@@ -55,7 +55,7 @@ fn put_chunks(send: &mut Vec<u8>, message: &[u8]) -> Result<(), Fault>
 /// Adds the message of this type and body, and says whether it is within the limit; one that isn't is not added.
 #[tactic(auto, unfolding(crate::specs::Chunks::message_in_chunks))]
 pub fn put_message(send: &mut Vec<u8>, kind: MessageKind, body: &[u8]) -> Result<bool, Fault>
-    ensures { SendsOne send.old.items send.new.items (number_of kind ∷ body.now) result }
+    ensures { SendsOne send.old.items send.new.items (type_byte kind ∷ body.now) result }
 {
     if MESSAGE_LIMIT <= body.len() {
         return Ok(false);

@@ -11,7 +11,7 @@ use Rattle.rds_world.specs.Replicas.{IsMadeBy}
 use Rattle.rds_world.proofs.Edits.{edit_is}
 use Rattle.rds_world.proofs.Open.{answered_open, answers_now, asked_open, asked_within, asks_now, edited_open, merged_open, opened, saved_open, taken_open}
 use Rattle.rds_store.specs.Edits.{MayEdit}
-use Rattle.rds_store.specs.Events.{AnswersAreAnswers, EditsAreEdits, KeepsAreSaves, LinesAreEdits, MergesAreTakes, OpeningsAreCrashes, QuestionsAreAsks, TakesAreTakes}
+use Rattle.rds_store.specs.Events.{DocumentsAnswer, EditsAreEdits, KeepsAreSaves, DocumentLinesAreEdits, DocumentsMerge, OpeningsAreCrashes, DocumentsAsk, DocumentsTake}
 
 pub openings_crashed : OpeningsAreCrashes
 openings_crashed = opened
@@ -30,25 +30,25 @@ edit_made command edited before after (inr done) = record {
 pub edits_edited : EditsAreEdits
 edits_edited w command edited before after kept is_open may = edited_open w (command ∷ []) before after kept is_open (edit_made command edited before after may)
 
-pub lines_edited : LinesAreEdits
+pub lines_edited : DocumentLinesAreEdits
 lines_edited w lines replies before after kept is_open edited =
     let made = lines_made lines 0 before after replies edited in
     (made.0, edited_open w made.0 before after kept is_open made.1)
 
-pub questions_asked : QuestionsAreAsks
+pub questions_asked : DocumentsAsk
 questions_asked w document is_open = (asked_open w document is_open, (asks_now w document is_open.kept).1)
 
-pub answers_answered : AnswersAreAnswers
+pub answers_answered : DocumentsAnswer
 answers_answered w number asked document asks is_open =
     (answered_open w number asked document asks is_open.kept document document is_open, (answers_now w number asked document asks is_open.kept).1)
 
-pub takes_taken : TakesAreTakes
+pub takes_taken : DocumentsTake
 takes_taken w number components question answer asked peer before after kept rosters asked_value peer_value text responds answered is_open takes =
     let responded : Responded question answer.items peer = record { asked = responds.asked; within = responds.within; is_question = responds.is_question; greets = responds.responds.0; responds = responds.responds.1 } in
     let its = brought asked peer before after question answer.items components asked_value peer_value text responded takes in
     let enough = asked_within w number asked peer before rosters answered is_open.memory its.replica.own in
     taken_open w number asked peer before after kept answered is_open (takes_answer asked peer before after question answer.items components asked_value peer_value text responded takes enough)
 
-pub merges_taken : MergesAreTakes
+pub merges_taken : DocumentsMerge
 merges_taken w lent components snapshot before after is_open merges lends =
     merged_open w lent merges.source before after lends is_open (merge_takes merges.source before after merges.merged)

@@ -6,8 +6,8 @@ use Rattle.rds_codec.specs.Decoding.{IsTextOf}
 use Rattle.rds_codec.specs.declared.limits.TheConstants.{LIMIT}
 use Rattle.rds_names.specs.declared.fault.Fault.{Fault}
 use Rattle.rds_names.specs.declared.fault.Fault.TheVariants.{Memory}
-use Rattle.rds_offline.specs.Letters.{BringsNothing, IsTaken, TakesResponse}
-use Rattle.rds_offline.specs.Merging.{CountsLacking, IsMerged, RefusesMerge}
+use Rattle.rds_offline.specs.Letters.{BringsNothing, IsTakenFrom, TakesResponse}
+use Rattle.rds_offline.specs.Merging.{CountsLacking, IsMergedFrom, RefusesMerge}
 use Rattle.rds_questions.proofs.Leveled.{level_lack_nothing}
 use Rattle.rds_questions.specs.Lacking.{LacksGives}
 use Rattle.rds_questions.specs.Questions.{QuestionValue, question_kind}
@@ -36,7 +36,7 @@ module _ (question answer : List ℕ) (asked : QuestionValue) (is : IsGiven ques
     pub no_take : (fault : Fault) → TakesReceived asked before received (Err fault) → RefusesTaking question answer before fault
     no_take fault refused = inr (inr (record { asked = asked; is_question = is.1; received = received; is_received = brought; why = refused }))
 
-    pub takes_response : (after : ReplicaValue) (components : ℕ) → IsAsker asked before → HasAllOf asked.digest before.state → IsTaken received before after → components ≡ size received.delta
+    pub takes_response : (after : ReplicaValue) (components : ℕ) → IsAsker asked before → HasAllOf asked.digest before.state → IsTakenFrom received before after → components ≡ size received.delta
         → TakesResponse question answer before after components
     takes_response after components asker has_all taken count = record {
       asked = asked;
@@ -51,7 +51,7 @@ module _ (question answer : List ℕ) (asked : QuestionValue) (is : IsGiven ques
     }
 
     -- of whatever a take of what was received gives
-    pub takes_all : (result : Result ℕ Fault) (after : ReplicaValue) → OnOk result (IsAsker asked before) → OnOk result (HasAllOf asked.digest before.state) → OnOk result (IsTaken received before after)
+    pub takes_all : (result : Result ℕ Fault) (after : ReplicaValue) → OnOk result (IsAsker asked before) → OnOk result (HasAllOf asked.digest before.state) → OnOk result (IsTakenFrom received before after)
         → IfOk result (λ n. n ≡ size received.delta) → IfOk result (TakesResponse question answer before after)
     takes_all (Ok n) after asker has_all taken count = takes_response after n asker has_all taken count
     takes_all (Err fault) after asker has_all taken count = tt
@@ -73,22 +73,22 @@ no_copy q x held fault has memory = inr (has, inl memory)
 pub not_taken : (q : QuestionValue) (x : ReceivedValue) (held after : ReplicaValue) (fault : Fault) → Has q held → TakesDeltaWith held x.roster x.delta (Err fault) after → TakesReceived q held x (Err fault)
 not_taken q x held after fault has takes = inr (has, inr takes.gives)
 
-pub is_taken : (x : ReceivedValue) (before after : ReplicaValue) → TakesDeltaWith before x.roster x.delta (Ok tt) after → IsTaken x before after
+pub is_taken : (x : ReceivedValue) (before after : ReplicaValue) → TakesDeltaWith before x.roster x.delta (Ok tt) after → IsTakenFrom x before after
 is_taken x before after takes = record { rosters = takes.gives.0; roster = takes.roster; own = takes.own; joined = takes.ok; known = takes.gives.1.0 }
 
-pub is_merged : (source before after : ReplicaValue) → TakesDeltaWith before source.roster source.state (Ok tt) after → IsMerged source before after
+pub is_merged : (source before after : ReplicaValue) → TakesDeltaWith before source.roster source.state (Ok tt) after → IsMergedFrom source before after
 is_merged source before after takes = record { rosters = takes.gives.0; roster = takes.roster; own = takes.own; joined = takes.ok; known = takes.gives.1.0 }
 
 -- ---- a snapshot
 
 module _ (snapshot : List ℕ) (source before : ReplicaValue) (held : IsHeldBy snapshot source) where
-  pub merges : (after : ReplicaValue) (components : ℕ) → IsMerged source before after → CountsLacking source before components → MergesSnapshot snapshot before after components
+  pub merges : (after : ReplicaValue) (components : ℕ) → IsMergedFrom source before after → CountsLacking source before components → MergesSnapshot snapshot before after components
   merges after components merged counted = record { source = source; held = held; merged = merged; counted = counted }
 
   pub no_merge : (fault : Fault) → RefusesMerge source before fault → RefusesSnapshot snapshot before fault
   no_merge fault refused = inr (source, held, refused)
 
-  pub merges_all : (result : Result ℕ Fault) (after : ReplicaValue) → OnOk result (IsMerged source before after) → IfOk result (CountsLacking source before) → IfOk result (MergesSnapshot snapshot before after)
+  pub merges_all : (result : Result ℕ Fault) (after : ReplicaValue) → OnOk result (IsMergedFrom source before after) → IfOk result (CountsLacking source before) → IfOk result (MergesSnapshot snapshot before after)
   merges_all (Ok n) after merged counted = merges after n merged counted
   merges_all (Err fault) after merged counted = tt
 

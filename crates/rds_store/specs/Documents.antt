@@ -32,8 +32,8 @@ empty_replica roster own = record {
 abbrev pub first_in : RosterValue → ℕ → Result ReplicaValue Fault
 first_in roster own = if nat_lt own (length roster.names) then Ok (empty_replica roster own) else Err BadRoster
 
-abbrev pub first_of : Result RosterValue Fault → ℕ → Result ReplicaValue Fault
-first_of roster own = roster >>= λ r. first_in r own
+abbrev pub first_replica : Result RosterValue Fault → ℕ → Result ReplicaValue Fault
+first_replica roster own = roster >>= λ r. first_in r own
 
 -- the roster has a name more, and nothing else is changed
 pub record IsGrownBy (name : List ℕ) (before after : ReplicaValue) : Type 0 where

@@ -28,8 +28,8 @@ EditsAreEdits = (w : World) (command : Command) (edited : Edited) (before after 
     → MakeOpen w (Of (Edit before.own command) ∷ []) after kept
 
 -- lines that edit: the commands of those that aren't refused
-abbrev pub LinesAreEdits : Type 0
-LinesAreEdits = (w : World) (lines : List (List ℕ)) (replies : List Reply) (before after kept : ReplicaValue)
+abbrev pub DocumentLinesAreEdits : Type 0
+DocumentLinesAreEdits = (w : World) (lines : List (List ℕ)) (replies : List Reply) (before after kept : ReplicaValue)
     → IsOpenIn w before kept → EditsLines lines before after replies
     → (commands : List Command) × MakeOpen w (edits before.own commands) after kept
 
@@ -38,21 +38,21 @@ KeepsAreSaves = (w : World) (document kept : ReplicaValue) → IsOpenIn w docume
     → MakeOpen w (Of (Save document.own) ∷ []) document document
 
 -- what a document that is kept asks
-abbrev pub QuestionsAreAsks : Type 0
-QuestionsAreAsks = (w : World) (document : ReplicaValue) → IsOpenIn w document document
+abbrev pub DocumentsAsk : Type 0
+DocumentsAsk = (w : World) (document : ReplicaValue) → IsOpenIn w document document
     → MakeOpen w (Of (Ask document.own) ∷ []) document document
     × IsAskedIn (run (Of (Ask document.own) ∷ []) w) (length w.asks) document
 
 -- what a document that is kept answers to that, at any later time
-abbrev pub AnswersAreAnswers : Type 0
-AnswersAreAnswers = (w : World) (number : ℕ) (asked document : ReplicaValue) → IsAskedIn w number asked
+abbrev pub DocumentsAnswer : Type 0
+DocumentsAnswer = (w : World) (number : ℕ) (asked document : ReplicaValue) → IsAskedIn w number asked
     → IsOpenIn w document document
     → MakeOpen w (Of (Answer document.own number) ∷ []) document document
     × IsAnsweredIn (run (Of (Answer document.own number) ∷ []) w) (length w.answers) asked document
 
 -- what the one that asked, by then, takes of that answer, at any later time
-abbrev pub TakesAreTakes : Type 0
-TakesAreTakes =
+abbrev pub DocumentsTake : Type 0
+DocumentsTake =
     (w : World) (number components : ℕ) (question : List ℕ) (answer : Vec ℕ) (asked peer before after kept : ReplicaValue)
     → HasRosters w → IsSnapshot asked → IsSnapshot peer → question ≡ question_text (question_of asked)
     → RespondsTo question peer (Ok answer) → IsAnsweredIn w number asked peer → IsOpenIn w before kept
@@ -61,8 +61,8 @@ TakesAreTakes =
 
 -- all that another has seen is taken of a copy, which that lent when it was copied: as if the document asked, and were
 -- answered with that
-abbrev pub MergesAreTakes : Type 0
-MergesAreTakes = (w : World) (lent components : ℕ) (snapshot : List ℕ) (before after : ReplicaValue)
+abbrev pub DocumentsMerge : Type 0
+DocumentsMerge = (w : World) (lent components : ℕ) (snapshot : List ℕ) (before after : ReplicaValue)
     → IsOpenIn w before before → (merges : MergesSnapshot snapshot before after components)
     → IsAskedIn w lent merges.source
     → MakeOpen w

@@ -20,14 +20,14 @@ abbrev pub shown_at : StateValue → List ℕ → Result Shown Fault
 shown_at state path = path_of path >>= λ p. Ok (view_of (document state) p)
 
 -- the view that is due, or the fault, unless memory ran out
-abbrev pub MayShow : StateValue → List ℕ → Result View Fault → Type 0
-MayShow state path result =
+abbrev pub MayShowView : StateValue → List ℕ → Result View Fault → Type 0
+MayShowView state path result =
     MatchResult result (λ view. shown_at state path ≡ Ok (shown_view view))
     (λ fault. (fault ≡ Memory) ⊎ (shown_at state path ≡ Err fault))
 
 -- a text about a state, at the path that a text is
-abbrev pub told_at : (StateValue → List (List ℕ) → List ℕ) → StateValue → List ℕ → Result (List ℕ) Fault
-told_at text state path = path_of path >>= λ p. Ok (text state p)
+abbrev pub text_at_path : (StateValue → List (List ℕ) → List ℕ) → StateValue → List ℕ → Result (List ℕ) Fault
+text_at_path text state path = path_of path >>= λ p. Ok (text state p)
 
 -- the view as compact JSON
 abbrev pub view_text : StateValue → List (List ℕ) → List ℕ

@@ -6,8 +6,8 @@ use Rattle.rds_codec.specs.FormatWriting.{EncodesTabled}
 use Rattle.rds_codec.specs.declared.limits.TheConstants.{LIMIT}
 use Rattle.rds_keep.specs.Kept.{RefusesBytes as RefusesFileBytes}
 use Rattle.rds_names.specs.declared.fault.Fault.{Fault}
-use Rattle.rds_offline.specs.Letters.{RefusesBytes}
-use Rattle.rds_offline.specs.Merging.{CountsLacking, IsMerged, RefusesMerge}
+use Rattle.rds_offline.specs.Letters.{RefusesLetter}
+use Rattle.rds_offline.specs.Merging.{CountsLacking, IsMergedFrom, RefusesMerge}
 use Rattle.rds_questions.specs.Lacking.{IsLevel, LackNothing, LacksGives}
 use Rattle.rds_questions.specs.Questions.{QuestionValue, question_kind, question_of, question_text}
 use Rattle.rds_questions.specs.Receiving.{IsReceivedFrom, ReceivedValue}
@@ -35,7 +35,7 @@ MayAnswer question held (Err fault) = Decodes question_kind question (Err fault)
 
 -- the bytes are the text of a question within the limit, and this is what a replica and the one that asked lack of one
 -- another's
-pub record TellsLacks (question : List ℕ) (held : ReplicaValue) (result : Result Lacks Fault) : Type 0 where
+pub record AnswersLacks (question : List ℕ) (held : ReplicaValue) (result : Result Lacks Fault) : Type 0 where
   pub asked : QuestionValue
   pub within : length question ≤ LIMIT
   pub is_question : IsTextOf question_kind question asked
@@ -43,9 +43,9 @@ pub record TellsLacks (question : List ℕ) (held : ReplicaValue) (result : Resu
 
 -- what is lacking, or that the bytes are no question, or why who asks isn't told
 abbrev pub MayTellLacks : List ℕ → ReplicaValue → Result Lacks Fault → Type 0
-MayTellLacks question held (Ok lacks) = TellsLacks question held (Ok lacks)
+MayTellLacks question held (Ok lacks) = AnswersLacks question held (Ok lacks)
 MayTellLacks question held (Err fault) =
-    Decodes question_kind question (Err fault) ⊎ TellsLacks question held (Err fault)
+    Decodes question_kind question (Err fault) ⊎ AnswersLacks question held (Err fault)
 
 -- the bytes are the text of a question, and nothing is lacking exactly where the one that asked has the same roster and
 -- the same digest
@@ -66,14 +66,14 @@ pub record RefusesReceived (question answer : List ℕ) (before : ReplicaValue) 
 abbrev pub RefusesTaking : List ℕ → List ℕ → ReplicaValue → Fault → Type 0
 RefusesTaking question answer before fault =
     Decodes question_kind question (Err fault)
-    ⊎ (RefusesBytes question answer fault ⊎ RefusesReceived question answer before fault)
+    ⊎ (RefusesLetter question answer fault ⊎ RefusesReceived question answer before fault)
 
 -- all that the replica of a snapshot has seen, with the records behind it, was joined, of which so many components were
 -- lacking
 pub record MergesSnapshot (snapshot : List ℕ) (before after : ReplicaValue) (components : ℕ) : Type 0 where
   pub source : ReplicaValue
   pub held : IsHeldBy snapshot source
-  pub merged : IsMerged source before after
+  pub merged : IsMergedFrom source before after
   pub counted : CountsLacking source before components
 
 -- why a snapshot isn't merged: the bytes are none, or the replica doesn't take what the other has seen

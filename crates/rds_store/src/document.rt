@@ -10,7 +10,7 @@ ghost use Rattle.rds_names.specs.declared.fault.Fault.TheVariants.{Memory};
 ghost use Rattle.rds_state.specs.Fits.{Fits};
 ghost use Rattle.rds_state.specs.Results.{EditsReplica, TakesDeltaWith};
 ghost use Rattle.rds_state.specs.Value.{coordinates};
-ghost use Rattle.rds_store.specs.Documents.{IsGrownBy, IsHeldBy, RefusesGrowth, first_of, named_roster, names_in};
+ghost use Rattle.rds_store.specs.Documents.{IsGrownBy, IsHeldBy, RefusesGrowth, first_replica, named_roster, names_in};
 ghost use Rattle.rds_tree.specs.EditsWithDelta.{EditsWithDelta};
 
 use rds_gaps::GapSet;
@@ -55,7 +55,7 @@ impl Document {
     /// An empty replica of a group: the one with this number, from 0, among the names. The texts are judged from left
     /// to right (`BadKey` for the group, `BadName`), then the roster, and the number in it (`BadRoster`).
     pub fn new(alloc: Global, group: &str, names: &[&str], own: u8) -> Result<Document, Fault>
-        ensures { MayGive result (first_of (named_roster group.now (map (λ n. n.now) names.now)) own) }
+        ensures { MayGive result (first_replica (named_roster group.now (map (λ n. n.now) names.now)) own) }
     {
         let roster = roster_named(alloc, group, names)?;
         Document::first(alloc, roster, own)
@@ -64,7 +64,7 @@ impl Document {
     /// An empty replica: the one with this number in the roster. A number that isn't below its length is refused
     /// (`BadRoster`).
     pub fn first(alloc: Global, roster: Roster, own: u8) -> Result<Document, Fault>
-        ensures { MayGive result (first_of (Ok roster) own) }
+        ensures { MayGive result (first_replica (Ok roster) own) }
     {
         Document::of(alloc, Replica::new(alloc, roster, own)?)
     }

@@ -1,6 +1,6 @@
 //! The law of documents in programs.
-ghost use Rattle.rds_store.specs.Events.{AnswersAreAnswers, EditsAreEdits, KeepsAreSaves, LinesAreEdits};
-ghost use Rattle.rds_store.specs.Events.{MergesAreTakes, OpeningsAreCrashes, QuestionsAreAsks, TakesAreTakes};
+ghost use Rattle.rds_store.specs.Events.{DocumentsAnswer, EditsAreEdits, KeepsAreSaves, DocumentLinesAreEdits};
+ghost use Rattle.rds_store.specs.Events.{DocumentsMerge, OpeningsAreCrashes, DocumentsAsk, DocumentsTake};
 
 /// What programs do with documents in files is events of the model of all replicas. To open a file is the model's crash,
 /// since what wasn't kept is lost. An edit is an edit, and lines are the commands of those that aren't refused. To keep
@@ -14,10 +14,10 @@ ghost use Rattle.rds_store.specs.Events.{MergesAreTakes, OpeningsAreCrashes, Que
 pub fn documents_are_events()
     ensures opens { OpeningsAreCrashes }
     ensures edits { EditsAreEdits }
-    ensures lines { LinesAreEdits }
+    ensures lines { DocumentLinesAreEdits }
     ensures keeps { KeepsAreSaves }
-    ensures asks { QuestionsAreAsks }
-    ensures answers { AnswersAreAnswers }
-    ensures takes { TakesAreTakes }
-    ensures merges { MergesAreTakes }
+    ensures asks { DocumentsAsk }
+    ensures answers { DocumentsAnswer }
+    ensures takes { DocumentsTake }
+    ensures merges { DocumentsMerge }
 {}

@@ -6,7 +6,7 @@ ghost use Rattle.rds_listing.specs.Conflicts.{conflicts_text};
 ghost use Rattle.rds_listing.specs.Dump.{dump_text};
 ghost use Rattle.rds_names.specs.declared.fault.Fault.TheVariants.{Memory};
 ghost use Rattle.rds_state.specs.Mark.{mark_of};
-ghost use Rattle.rds_store.specs.Looks.{IsValueText, MayShow, MayTell, RefusesPlace, here_text, told_at};
+ghost use Rattle.rds_store.specs.Looks.{IsValueText, MayShowView, MayTell, RefusesPlace, here_text, text_at_path};
 ghost use Rattle.rds_store.specs.Looks.{view_text};
 ghost use Rattle.rds_tree.specs.Document.{document};
 ghost use Rattle.rds_tree.specs.View.{view_of};
@@ -24,14 +24,14 @@ impl Document {
     /// What the document shows at a path, as `a/b/c`; the empty text is the root. A text that is no path is refused
     /// (`BadPath`, `BadKey`).
     pub fn view(&self, path: &str) -> Result<View, Fault>
-        ensures { MayShow self.now.state path.now result }
+        ensures { MayShowView self.now.state path.now result }
     {
         self.index.view(&Path::new(self.alloc, path)?)
     }
 
     /// The same as compact JSON, as [`show`] writes a view.
     pub fn view_json(&self, path: &str) -> Result<String, Fault>
-        ensures { MayTell result (told_at view_text self.now.state path.now) }
+        ensures { MayTell result (text_at_path view_text self.now.state path.now) }
     {
         let view = self.view(path)?;
         show(self.alloc, &view)
@@ -39,7 +39,7 @@ impl Document {
 
     /// The same of what stands at the path itself: each map there shows nothing, and isn't looked at.
     pub fn here_json(&self, path: &str) -> Result<String, Fault>
-        ensures { MayTell result (told_at here_text self.now.state path.now) }
+        ensures { MayTell result (text_at_path here_text self.now.state path.now) }
     {
         let path = Path::new(self.alloc, path)?;
         let shown = self.index.view_here(&path)?;
@@ -70,7 +70,7 @@ impl Document {
     /// The registers below a path that have more than one value, each as a line of JSON with its path from the root and
     /// its values.
     pub fn conflicts(&self, path: &str) -> Result<String, Fault>
-        ensures { MayTell result (told_at conflicts_text self.now.state path.now) }
+        ensures { MayTell result (text_at_path conflicts_text self.now.state path.now) }
     {
         let path = Path::new(self.alloc, path)?;
         conflicts_shown(self.alloc, &path, &self.index.view(&path)?)
@@ -78,7 +78,7 @@ impl Document {
 
     /// The edits that make what the document has below a path, each as a line that `edit_line` takes.
     pub fn dump(&self, path: &str) -> Result<String, Fault>
-        ensures { MayTell result (told_at dump_text self.now.state path.now) }
+        ensures { MayTell result (text_at_path dump_text self.now.state path.now) }
     {
         let path = Path::new(self.alloc, path)?;
         dump_shown(self.alloc, &path, &self.index.view(&path)?)

@@ -6,8 +6,8 @@ ghost use Rattle.rds_delta.specs.Digested.{digest_of};
 ghost use Rattle.rds_delta.specs.Least.{least};
 ghost use Rattle.rds_delta.specs.Ranks.{ranks};
 ghost use Rattle.rds_names.specs.declared.fault.Fault.TheVariants.{Memory};
-ghost use Rattle.rds_offline.specs.Letters.{IsTaken, TakesResponse};
-ghost use Rattle.rds_offline.specs.Merging.{CountsLacking, IsMerged, RefusesMerge};
+ghost use Rattle.rds_offline.specs.Letters.{IsTakenFrom, TakesResponse};
+ghost use Rattle.rds_offline.specs.Merging.{CountsLacking, IsMergedFrom, RefusesMerge};
 ghost use Rattle.rds_questions.specs.Hashed.{question_hash};
 ghost use Rattle.rds_questions.specs.Questions.{question_of, question_text};
 ghost use Rattle.rds_questions.specs.Taking.{HasAllOf, IsAsker, TakesReceived};
@@ -155,7 +155,7 @@ fn take_in(
     ensures kept { changes.new.kept.value ≡ changes.old.kept.value }
     ensures replica { OnOk result (IsAsker question.now document.old) }
     ensures has_all { OnOk result (HasAllOf question.now.digest document.old.state) }
-    ensures taken { OnOk result (IsTaken received document.old document.new) }
+    ensures taken { OnOk result (IsTakenFrom received document.old document.new) }
     ensures count { IfOk result (λ n. n ≡ size received.delta) }
     ensures fault { IfErr result (λ fault. TakesReceived question.now document.old received (Err fault)) }
     ensures err { OnErr result (document.new ≡ document.old) }
@@ -200,7 +200,7 @@ fn merge_in(
     requires since { AreSince changes.old document.old }
     ensures since { AreSince changes.new document.new }
     ensures kept { changes.new.kept.value ≡ changes.old.kept.value }
-    ensures merged { OnOk result (IsMerged source.now document.old document.new) }
+    ensures merged { OnOk result (IsMergedFrom source.now document.old document.new) }
     ensures counted { IfOk result (CountsLacking source.now document.old) }
     ensures fault { IfErr result (RefusesMerge source.now document.old) }
     ensures err { OnErr result (document.new ≡ document.old) }

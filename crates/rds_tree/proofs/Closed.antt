@@ -7,12 +7,12 @@ use Rattle.rds_tree.specs.Document.{Placed}
 use Rattle.rds_tree.specs.Gathered.{child_maps}
 use Rattle.rds_tree.specs.Parts.{closed, closed_maps}
 use Rattle.rds_tree.specs.Shown.{a_map, maps_of, no_maps, shows}
-use Rattle.rds_tree.specs.View.{below_path, children, entries_view, goes_on, shown_to, values_by_key}
+use Rattle.rds_tree.specs.View.{below_path, children, entries_view, goes_deeper, shown_to, values_by_key}
 
 closed_children : (n : ℕ) (cs : List (List ℕ × List Placed)) → closed_maps (maps_of (child_maps n cs)) ≡ maps_of (child_maps 0 cs)
 closed_children n [] = refl
 closed_children n (c ∷ cs) =
-    elim (goes_on c.1) as (λ b. closed_maps (maps_of (cons_option (cond b (Some (c.0, shown_to n None c.1)) None) (child_maps n cs))) ≡ maps_of (cons_option (cond b (Some (c.0, shown_to 0 None c.1)) None) (child_maps 0 cs))) [
+    elim (goes_deeper c.1) as (λ b. closed_maps (maps_of (cons_option (cond b (Some (c.0, shown_to n None c.1)) None) (child_maps n cs))) ≡ maps_of (cons_option (cond b (Some (c.0, shown_to 0 None c.1)) None) (child_maps 0 cs))) [
       | true ↦ ap (a_map c.0 (shows no_maps [] [] None)) (closed_children n cs)
       | false ↦ closed_children n cs
     ]

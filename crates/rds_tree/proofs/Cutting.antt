@@ -13,7 +13,7 @@ use Rattle.std.specs.FinMap.{nat_cmp-IsAntisymmetric, slice_cmp-IsAntisymmetric}
 use Rattle.rds_tree.specs.declared.leaf.Leaf.{Leaf}
 use Rattle.rds_tree.specs.Cuts.{goes, IsCut, IsLess}
 use Rattle.rds_tree.specs.Document.{key_cmp}
-use Rattle.rds_tree.specs.Row.{Row, under, at_end, rows_of, is_full}
+use Rattle.rds_tree.specs.Row.{Row, under, at_end, rows_in_node, is_filled}
 use Rattle.rds_tree.proofs.Adding.{any-rows, no_keys}
 use Rattle.rds_tree.proofs.Grouped.{any-removed}
 
@@ -27,7 +27,7 @@ below_passes t c = list_any (λ r. t (under c.0 r)) c.1
 abbrev pub stays : (Leaf → Bool) → Bool → List (List ℕ) → (Row → Bool) → Row → Bool
 stays picks deep path t r = t r && not (goes picks deep path r.path r.leaf)
 
-pub cut_leaves : (picks : Leaf → Bool) (deep : Bool) (path : List (List ℕ)) (old new : List Row) (leaves ls : List Leaf) (cs : List (List ℕ × List Row)) → deep ≡ false → length path ≡ 0 → rows_of leaves cs ≡ old → IsLess picks leaves ls → rows_of ls cs ≡ new → IsCut picks deep path old new
+pub cut_leaves : (picks : Leaf → Bool) (deep : Bool) (path : List (List ℕ)) (old new : List Row) (leaves ls : List Leaf) (cs : List (List ℕ × List Row)) → deep ≡ false → length path ≡ 0 → rows_in_node leaves cs ≡ old → IsLess picks leaves ls → rows_in_node ls cs ≡ new → IsCut picks deep path old new
 cut_leaves picks deep path old new leaves ls cs shallow none is less was =
     subst (λ b. IsCut picks b path old new) (sym shallow) (subst (λ p. IsCut picks false p old new) (sym (no_keys path none)) (record {
       any = λ t. ap (list_any t) (sym was) ∙ any-rows t ls cs
@@ -47,8 +47,8 @@ none_stays : (picks : Leaf → Bool) (t : Row → Bool) (rows : List Row) → li
 none_stays picks t [] = refl
 none_stays picks t (r ∷ rows) = ap (λ b. (t r && not b) || list_any (stays picks true [] t) rows) (goes_all picks r.path r.leaf) ∙ ap (λ b. b || list_any (stays picks true [] t) rows) (and-false (t r)) ∙ none_stays picks t rows
 
-pub empty_rows : (leaves : List Leaf) (cs : List (List ℕ × List Row)) → leaves ≡ [] → cs ≡ [] → rows_of leaves cs ≡ []
-empty_rows leaves cs l c = ap (λ ls. rows_of ls cs) l ∙ ap (λ ds. rows_of [] ds) c
+pub empty_rows : (leaves : List Leaf) (cs : List (List ℕ × List Row)) → leaves ≡ [] → cs ≡ [] → rows_in_node leaves cs ≡ []
+empty_rows leaves cs l c = ap (λ ls. rows_in_node ls cs) l ∙ ap (λ ds. rows_in_node [] ds) c
 
 -- nothing is left where all goes
 pub cut_whole : (picks : Leaf → Bool) (deep : Bool) (path : List (List ℕ)) (old new : List Row) → deep ≡ true → length path ≡ 0 → new ≡ [] → IsCut picks deep path old new
@@ -109,7 +109,7 @@ here_stays : (picks : Leaf → Bool) (deep : Bool) (k : List ℕ) (p : List (Lis
 here_stays picks deep k p t leaves i = list_any (λ l. and-true (t (at_end l)) i) leaves
 
 -- from what passes below to all rows
-below_is_cut : (picks : Leaf → Bool) (deep : Bool) (path : List (List ℕ)) (k : List ℕ) (p : List (List ℕ)) (old new : List Row) (leaves : List Leaf) (cs ds : List (List ℕ × List Row)) → path ≡ k ∷ p → rows_of leaves cs ≡ old → rows_of leaves ds ≡ new
+below_is_cut : (picks : Leaf → Bool) (deep : Bool) (path : List (List ℕ)) (k : List ℕ) (p : List (List ℕ)) (old new : List Row) (leaves : List Leaf) (cs ds : List (List ℕ × List Row)) → path ≡ k ∷ p → rows_in_node leaves cs ≡ old → rows_in_node leaves ds ≡ new
     → ((t : Row → Bool) → list_any (below_passes t) ds ≡ list_any (below_passes (stays picks deep (k ∷ p) t)) cs) → IsCut picks deep path old new
 below_is_cut picks deep path k p old new leaves cs ds split is was below =
     subst (λ q. IsCut picks deep q old new) (sym split) (record {
@@ -117,26 +117,26 @@ below_is_cut picks deep path k p old new leaves cs ds split is was below =
           ∙ sym (any-rows (stays picks deep (k ∷ p) t) leaves cs) ∙ ap (list_any (stays picks deep (k ∷ p) t)) is;
     })
 
-pub cut_none : (picks : Leaf → Bool) (deep : Bool) (path : List (List ℕ)) (k : List ℕ) (p : List (List ℕ)) (old new : List Row) (leaves : List Leaf) (cs ds : List (List ℕ × List Row)) → path ≡ k ∷ p → rows_of leaves cs ≡ old → rows_of leaves ds ≡ new
+pub cut_none : (picks : Leaf → Bool) (deep : Bool) (path : List (List ℕ)) (k : List ℕ) (p : List (List ℕ)) (old new : List Row) (leaves : List Leaf) (cs ds : List (List ℕ × List Row)) → path ≡ k ∷ p → rows_in_node leaves cs ≡ old → rows_in_node leaves ds ≡ new
     → ds ≡ cs → None ≡ lookup (at_key k) cs → IsCut picks deep path old new
 cut_none picks deep path k p old new leaves cs ds split is was same none =
     below_is_cut picks deep path k p old new leaves cs ds split is was (λ t. ap (list_any (below_passes t)) same ∙ sym (untouched picks deep k p t cs (others_none k cs (sym none))))
 
-pub cut_some : (picks : Leaf → Bool) (deep : Bool) (path : List (List ℕ)) (k : List ℕ) (p : List (List ℕ)) (old new child less : List Row) (leaves : List Leaf) (cs ds : List (List ℕ × List Row)) → path ≡ k ∷ p → rows_of leaves cs ≡ old → rows_of leaves ds ≡ new
+pub cut_some : (picks : Leaf → Bool) (deep : Bool) (path : List (List ℕ)) (k : List ℕ) (p : List (List ℕ)) (old new child less : List Row) (leaves : List Leaf) (cs ds : List (List ℕ × List Row)) → path ≡ k ∷ p → rows_in_node leaves cs ≡ old → rows_in_node leaves ds ≡ new
     → ds ≡ set_value (at_key k) cs less → Some child ≡ lookup (at_key k) cs → IsStrictlySortedBy key_cmp (map (λ c. c.0) cs) → IsCut picks deep p child less → IsCut picks deep path old new
 cut_some picks deep path k p old new child less leaves cs ds split is was set here rise one =
     below_is_cut picks deep path k p old new leaves cs ds split is was (λ t. ap (list_any (below_passes t)) set ∙ cut_child picks deep k p t child less cs rise (sym here) one)
 
-pub cut_all : (picks : Leaf → Bool) (deep : Bool) (path : List (List ℕ)) (k : List ℕ) (p : List (List ℕ)) (old new child less : List Row) (leaves : List Leaf) (cs ds es : List (List ℕ × List Row)) → path ≡ k ∷ p → rows_of leaves cs ≡ old → rows_of leaves es ≡ new
+pub cut_all : (picks : Leaf → Bool) (deep : Bool) (path : List (List ℕ)) (k : List ℕ) (p : List (List ℕ)) (old new child less : List Row) (leaves : List Leaf) (cs ds es : List (List ℕ × List Row)) → path ≡ k ∷ p → rows_in_node leaves cs ≡ old → rows_in_node leaves es ≡ new
     → ds ≡ set_value (at_key k) cs less → es ≡ remove_entry (at_key k) ds → less ≡ [] → Some child ≡ lookup (at_key k) cs → IsStrictlySortedBy key_cmp (map (λ c. c.0) cs) → IsCut picks deep p child less → IsCut picks deep path old new
 cut_all picks deep path k p old new child less leaves cs ds es split is was set gone none here rise one =
     below_is_cut picks deep path k p old new leaves cs es split is was (λ t.
     ap (list_any (below_passes t)) (gone ∙ ap (remove_entry (at_key k)) (set ∙ ap (set_value (at_key k) cs) none)) ∙ any-removed (at_key k) (λ x r. t (under x r)) cs ∙ ap (λ rows. list_any (below_passes t) (set_value (at_key k) cs rows)) (sym none) ∙ cut_child picks deep k p t child less cs rise (sym here) one)
 
-pub not_full : {X : Type 0} (rows : List X) (b : Bool) → b ≡ not (is_full rows) → b ≡ true → rows ≡ []
+pub not_full : {X : Type 0} (rows : List X) (b : Bool) → b ≡ not (is_filled rows) → b ≡ true → rows ≡ []
 not_full [] b h t = refl
 not_full (r ∷ rows) b h t = absurd (cc)
 
-pub full_of : {X : Type 0} (rows : List X) (b : Bool) → b ≡ not (is_full rows) → b ≡ false → is_full rows ≡ true
+pub full_of : {X : Type 0} (rows : List X) (b : Bool) → b ≡ not (is_filled rows) → b ≡ false → is_filled rows ≡ true
 full_of [] b h f = absurd (cc)
 full_of (r ∷ rows) b h f = refl

@@ -21,8 +21,8 @@ use Rattle.rds_state.proofs.CountLemmas.{same_dot-tied}
 use Rattle.rds_state.proofs.JoinLaws.{same_value}
 use Rattle.rds_state.proofs.Nothing.{joins_nothing}
 use Rattle.rds_tree.specs.Cuts.{is_leaf}
-use Rattle.rds_tree.specs.Growing.{row_of, Holds}
-use Rattle.rds_tree.specs.Row.{Row, Adds}
+use Rattle.rds_tree.specs.Growing.{tree_row, Holds}
+use Rattle.rds_tree.specs.Row.{Row, AddsRow}
 use Rattle.rds_tree.specs.Taken.{is_unseen, rows_dead, rows_unseen, is_row_of, is_one_of, AreSameBut, IsWith, IsWithout}
 use Rattle.rds_tree.proofs.Effects.{any_alike, live_passes, passes_live}
 use Rattle.rds_tree.proofs.Holding.{goes_shallow, leaf_at, leaf_dot, leaf_itself, same_itself}
@@ -31,10 +31,10 @@ use Rattle.rds_tree.proofs.Witness.{both_ways, or_left, or_right}
 
 -- ---- the row of a live dot
 
-pub own_row : (r : Dot × Entry) → is_row_of r (row_of r) ≡ true
+pub own_row : (r : Dot × Entry) → is_row_of r (tree_row r) ≡ true
 own_row r = goes_shallow (is_leaf r.1.kind r.1.value r.0) (leaf_at r) r.1.path r.1.path ∙ and_true _ _ (same_itself r.1.path) (leaf_itself r.1.kind r.1.value r.0)
 
-row_dot : (r x : Dot × Entry) → is_row_of r (row_of x) ≡ true → r.0 ≡ x.0
+row_dot : (r x : Dot × Entry) → is_row_of r (tree_row x) ≡ true → r.0 ≡ x.0
 row_dot r x h = dot_is r.0 x.0 (same_dot-tied r.0 x.0 ∙ leaf_dot r.1.kind r.1.value r.0 (leaf_at x) (and_right (pointwise bytes_eq x.1.path r.1.path) _ (sym (goes_shallow (is_leaf r.1.kind r.1.value r.0) (leaf_at x) r.1.path x.1.path) ∙ h)))
 
 any-filter : {X : Type 0} (t p : X → Bool) (xs : List X) → list_any t (filter p xs) ≡ list_any (λ x. t x && p x) xs
@@ -84,24 +84,24 @@ module _ (a b : Lived) where
   coming = rows_unseen a (live_rows b)
 
   -- a live dot here is one of those that die exactly where it dies
-  dies_as : (d : Dot) (e : Entry) → map.get a d ≡ Some (Live e) → is_one_of dying (row_of (d, e)) ≡ dies (d, e)
+  dies_as : (d : Dot) (e : Entry) → map.get a d ≡ Some (Live e) → is_one_of dying (tree_row (d, e)) ≡ dies (d, e)
   dies_as d e live =
-      any-filter (λ x. is_row_of x (row_of (d, e))) dies (live_rows a)
+      any-filter (λ x. is_row_of x (tree_row (d, e))) dies (live_rows a)
       ∙ both_ways _ _
-      (λ h. let p = live_passes (λ x. is_row_of x (row_of (d, e)) && dies x) a h in
-      ap (λ q. is_dead (map.get b q)) (sym (row_dot (p.0, p.1.0) (d, e) (and_left _ (dies (p.0, p.1.0)) p.1.1.1))) ∙ and_right (is_row_of (p.0, p.1.0) (row_of (d, e))) _ p.1.1.1)
-      (λ h. passes_live (λ x. is_row_of x (row_of (d, e)) && dies x) a d e live (and_true _ _ (own_row (d, e)) h))
+      (λ h. let p = live_passes (λ x. is_row_of x (tree_row (d, e)) && dies x) a h in
+      ap (λ q. is_dead (map.get b q)) (sym (row_dot (p.0, p.1.0) (d, e) (and_left _ (dies (p.0, p.1.0)) p.1.1.1))) ∙ and_right (is_row_of (p.0, p.1.0) (tree_row (d, e))) _ p.1.1.1)
+      (λ h. passes_live (λ x. is_row_of x (tree_row (d, e)) && dies x) a d e live (and_true _ _ (own_row (d, e)) h))
 
   -- it is none of those that come
-  no_coming : (d : Dot) (e : Entry) → map.get a d ≡ Some (Live e) → is_one_of coming (row_of (d, e)) ≡ false
+  no_coming : (d : Dot) (e : Entry) → map.get a d ≡ Some (Live e) → is_one_of coming (tree_row (d, e)) ≡ false
   no_coming d e live = false_from_ne_true _ (λ h.
-      let p = live_passes (λ x. is_row_of x (row_of (d, e)) && comes x) b (sym (any-filter (λ x. is_row_of x (row_of (d, e))) comes (live_rows b)) ∙ h) in
-      seen_live (map.get a d) e live (ap (λ q. is_unseen (map.get a q)) (sym (row_dot (p.0, p.1.0) (d, e) (and_left _ (comes (p.0, p.1.0)) p.1.1.1))) ∙ and_right (is_row_of (p.0, p.1.0) (row_of (d, e))) _ p.1.1.1))
+      let p = live_passes (λ x. is_row_of x (tree_row (d, e)) && comes x) b (sym (any-filter (λ x. is_row_of x (tree_row (d, e))) comes (live_rows b)) ∙ h) in
+      seen_live (map.get a d) e live (ap (λ q. is_unseen (map.get a q)) (sym (row_dot (p.0, p.1.0) (d, e) (and_left _ (comes (p.0, p.1.0)) p.1.1.1))) ∙ and_right (is_row_of (p.0, p.1.0) (tree_row (d, e))) _ p.1.1.1))
 
   -- an unseen dot is none of those that die
-  no_dying : (r : Dot × Entry) → comes r ≡ true → is_one_of dying (row_of r) ≡ false
+  no_dying : (r : Dot × Entry) → comes r ≡ true → is_one_of dying (tree_row r) ≡ false
   no_dying r unseen = false_from_ne_true _ (λ h.
-      let p = live_passes (λ x. is_row_of x (row_of r) && dies x) a (sym (any-filter (λ x. is_row_of x (row_of r)) dies (live_rows a)) ∙ h) in
+      let p = live_passes (λ x. is_row_of x (tree_row r) && dies x) a (sym (any-filter (λ x. is_row_of x (tree_row r)) dies (live_rows a)) ∙ h) in
       seen_live (map.get a r.0) p.1.0 (ap (map.get a) (sym (row_dot (p.0, p.1.0) r (and_left _ (dies (p.0, p.1.0)) p.1.1.1))) ∙ p.1.1.0) unseen)
 
   abbrev stays : (Dot × Entry → Bool) → Dot × Entry → Bool
@@ -141,18 +141,18 @@ module _ (a b : Lived) where
     any = λ t.
         let kept : Row → Bool = λ row. t row && not (is_one_of dying row) in
         without.any t ∙ with.any kept
-        ∙ ap (λ x. x || list_any kept old) (any-filter (λ r. kept (row_of r)) comes (live_rows b)
-        ∙ same_pass (λ r. kept (row_of r) && comes r) (λ r. t (row_of r) && comes r) (live_rows b) (kept_arrive t))
-        ∙ ap (λ x. list_any (λ r. t (row_of r) && comes r) (live_rows b) || x) (holds.any kept
-        ∙ any_alike (λ r. kept (row_of r)) (λ r. t (row_of r) && not (dies r)) a (λ d e live. ap (λ x. t (row_of (d, e)) && not x) (dies_as d e live)))
-        ∙ or_comm (list_any (λ r. t (row_of r) && comes r) (live_rows b)) (list_any (λ r. t (row_of r) && not (dies r)) (live_rows a))
-        ∙ sym (rows_joined c (λ r. t (row_of r)) joined);
+        ∙ ap (λ x. x || list_any kept old) (any-filter (λ r. kept (tree_row r)) comes (live_rows b)
+        ∙ same_pass (λ r. kept (tree_row r) && comes r) (λ r. t (tree_row r) && comes r) (live_rows b) (kept_arrive t))
+        ∙ ap (λ x. list_any (λ r. t (tree_row r) && comes r) (live_rows b) || x) (holds.any kept
+        ∙ any_alike (λ r. kept (tree_row r)) (λ r. t (tree_row r) && not (dies r)) a (λ d e live. ap (λ x. t (tree_row (d, e)) && not x) (dies_as d e live)))
+        ∙ or_comm (list_any (λ r. t (tree_row r) && comes r) (live_rows b)) (list_any (λ r. t (tree_row r) && not (dies r)) (live_rows a))
+        ∙ sym (rows_joined c (λ r. t (tree_row r)) joined);
   }
     where
-      kept_arrive : (t : Row → Bool) (r : Dot × Entry) → ((t (row_of r) && not (is_one_of dying (row_of r))) && comes r) ≡ (t (row_of r) && comes r)
-      kept_arrive t r = elim (comes r) as (λ x. comes r ≡ x → ((t (row_of r) && not (is_one_of dying (row_of r))) && x) ≡ (t (row_of r) && x)) [
-        | true ↦ λ is. ap (λ x. (t (row_of r) && not x) && true) (no_dying r is) ∙ ap (λ x. x && true) (and-true (t (row_of r)))
-        | false ↦ λ is. and-false (t (row_of r) && not (is_one_of dying (row_of r))) ∙ sym (and-false (t (row_of r)))
+      kept_arrive : (t : Row → Bool) (r : Dot × Entry) → ((t (tree_row r) && not (is_one_of dying (tree_row r))) && comes r) ≡ (t (tree_row r) && comes r)
+      kept_arrive t r = elim (comes r) as (λ x. comes r ≡ x → ((t (tree_row r) && not (is_one_of dying (tree_row r))) && x) ≡ (t (tree_row r) && x)) [
+        | true ↦ λ is. ap (λ x. (t (tree_row r) && not x) && true) (no_dying r is) ∙ ap (λ x. x && true) (and-true (t (tree_row r)))
+        | false ↦ λ is. and-false (t (tree_row r) && not (is_one_of dying (tree_row r))) ∙ sym (and-false (t (tree_row r)))
       ] refl
 
   -- once those that come are taken out again, the tree is as before
@@ -160,7 +160,7 @@ module _ (a b : Lived) where
   holds_untaken old mid new holds same without = record {
     any = λ t.
         without.any t ∙ same.any t ∙ holds.any (λ row. t row && not (is_one_of coming row))
-        ∙ any_alike (λ r. t (row_of r) && not (is_one_of coming (row_of r))) (λ r. t (row_of r)) a (λ d e live. ap (λ x. t (row_of (d, e)) && not x) (no_coming d e live) ∙ and-true (t (row_of (d, e))));
+        ∙ any_alike (λ r. t (tree_row r) && not (is_one_of coming (tree_row r))) (λ r. t (tree_row r)) a (λ d e live. ap (λ x. t (tree_row (d, e)) && not x) (no_coming d e live) ∙ and-true (t (tree_row (d, e))));
   }
 
 -- the same, where the lives that led to the change are known to be these
@@ -186,7 +186,7 @@ holds_nothing old new d tree (Err f) none ok err holds = subst (λ (v : ReplicaV
 
 -- what is left to add leads to the same tree as all of it, and is some of it
 pub record IsAdding (rows rest : List (Dot × Entry)) (old tree : List Row) : Type 0 where
-  pub leads : (t : Row → Bool) → (list_any (λ r. t (row_of r)) rest || list_any t tree) ≡ (list_any (λ r. t (row_of r)) rows || list_any t old)
+  pub leads : (t : Row → Bool) → (list_any (λ r. t (tree_row r)) rest || list_any t tree) ≡ (list_any (λ r. t (tree_row r)) rows || list_any t old)
   pub same : AreSameBut rows old tree
   pub left : (t : Dot × Entry → Bool) → list_any t rest ≡ true → list_any t rows ≡ true
 
@@ -196,25 +196,25 @@ between true false z = refl
 between false true z = refl
 between false false z = refl
 
-pub adds_one : (rows rest later : List (Dot × Entry)) (r : Dot × Entry) (old tree new : List Row) → rest ≡ r ∷ later → IsAdding rows rest old tree → Adds tree (row_of r) new → IsAdding rows later old new
+pub adds_one : (rows rest later : List (Dot × Entry)) (r : Dot × Entry) (old tree new : List Row) → rest ≡ r ∷ later → IsAdding rows rest old tree → AddsRow tree (tree_row r) new → IsAdding rows later old new
 adds_one rows rest later r old tree new split is adds = record {
   leads = λ t.
-      ap (λ x. list_any (λ r. t (row_of r)) later || x) (adds.any t)
-      ∙ between (list_any (λ r. t (row_of r)) later) (t (row_of r)) (list_any t tree)
-      ∙ ap (λ xs. list_any (λ r. t (row_of r)) xs || list_any t tree) (sym split)
+      ap (λ x. list_any (λ r. t (tree_row r)) later || x) (adds.any t)
+      ∙ between (list_any (λ r. t (tree_row r)) later) (t (tree_row r)) (list_any t tree)
+      ∙ ap (λ xs. list_any (λ r. t (tree_row r)) xs || list_any t tree) (sym split)
       ∙ is.leads t;
   same = record {
     any = λ t.
         adds.any (λ row. t row && not (is_one_of rows row))
-        ∙ ap (λ x. (t (row_of r) && not x) || list_any (λ row. t row && not (is_one_of rows row)) tree) one
-        ∙ ap (λ x. x || list_any (λ row. t row && not (is_one_of rows row)) tree) (and-false (t (row_of r)))
+        ∙ ap (λ x. (t (tree_row r) && not x) || list_any (λ row. t row && not (is_one_of rows row)) tree) one
+        ∙ ap (λ x. x || list_any (λ row. t row && not (is_one_of rows row)) tree) (and-false (t (tree_row r)))
         ∙ is.same.any t;
   };
   left = λ t h. is.left t (ap (list_any t) split ∙ or_right (t r) _ h);
 }
   where
-    one : is_one_of rows (row_of r) ≡ true
-    one = is.left (λ x. is_row_of x (row_of r)) (ap (is_one_of_at (row_of r)) split ∙ or_left (is_row_of r (row_of r)) _ (own_row r))
+    one : is_one_of rows (tree_row r) ≡ true
+    one = is.left (λ x. is_row_of x (tree_row r)) (ap (is_one_of_at (tree_row r)) split ∙ or_left (is_row_of r (tree_row r)) _ (own_row r))
       where
         is_one_of_at : Row → List (Dot × Entry) → Bool
         is_one_of_at row xs = list_any (λ x. is_row_of x row) xs

@@ -20,7 +20,7 @@ use Rattle.rds_state.specs.CoveredDots.{covered_dots}
 use Rattle.rds_state.specs.Edit.{covers, life_killed}
 use Rattle.rds_state.specs.declared.command.Command.{Command}
 use Rattle.rds_state.proofs.CountLemmas.{same_dot-tied}
-use Rattle.rds_tree.specs.Cuts.{covered_leaf, found_at, goes, is_deep, path_in}
+use Rattle.rds_tree.specs.Cuts.{covered_leaf, found_at, goes, is_deep, path_covered}
 use Rattle.rds_tree.specs.Growing.{Holds}
 use Rattle.rds_tree.specs.Held.{among_dots, is_covered, killed_in, IsGathered}
 use Rattle.rds_tree.specs.Row.{Row}
@@ -90,10 +90,10 @@ module _ (c : Command) (v : Lived) (d : Dot) where
 -- ---- the lists of them
 
 -- found in a tree
-pub found_covered : (c : Command) (path : List (List ℕ)) (v : Lived) (tree : List Row) → path ≡ path_in c → Holds (live_rows v) tree → (d : Dot) (e : Entry) → found_at (covered_leaf c) (is_deep c) path tree d e ≡ is_covered c v d e
+pub found_covered : (c : Command) (path : List (List ℕ)) (v : Lived) (tree : List Row) → path ≡ path_covered c → Holds (live_rows v) tree → (d : Dot) (e : Entry) → found_at (covered_leaf c) (is_deep c) path tree d e ≡ is_covered c v d e
 found_covered c path v tree at holds d e =
     ap (λ p. found_at (covered_leaf c) (is_deep c) p tree d e) at
-    ∙ holds.any (λ r. goes (covered_leaf c) (is_deep c) (path_in c) r.path r.leaf && eq_by_cmp dot_cmp r.leaf.dot d)
+    ∙ holds.any (λ r. goes (covered_leaf c) (is_deep c) (path_covered c) r.path r.leaf && eq_by_cmp dot_cmp r.leaf.dot d)
     ∙ any_alike _ (hit c v d) v (λ q f live. ap (λ b. b && eq_by_cmp dot_cmp q d) (goes_covers c (q, f)))
     ∙ any_hit c v d e
 

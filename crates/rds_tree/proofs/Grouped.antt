@@ -15,7 +15,7 @@ use Rattle.std.specs.FinMap as map_of
 use Rattle.std.proofs.lemmas.List.Folds.{list_any-append}
 use Rattle.rds_names.specs.Conditions.{and_true, and_left, and_right, equal_of}
 use Rattle.rds_tree.specs.Held.{any_held}
-use Rattle.rds_tree.specs.Row.{is_full, are_full}
+use Rattle.rds_tree.specs.Row.{is_filled, are_full}
 
 pub over : (a b c : Bool) → (a || (b || c)) ≡ (b || (a || c))
 over true true c = refl
@@ -45,7 +45,7 @@ any_none : {X : Type 0} (xs : List X) → list_any (λ x. false) xs ≡ false
 any_none [] = refl
 any_none (x ∷ xs) = any_none xs
 
-full-push : {X : Type 0} (xs : List X) (x : X) → is_full (xs ++ x ∷ []) ≡ true
+full-push : {X : Type 0} (xs : List X) (x : X) → is_filled (xs ++ x ∷ []) ≡ true
 full-push [] x = refl
 full-push (y ∷ xs) x = refl
 
@@ -57,28 +57,28 @@ module _ {K X : Type 0} where
   none_held (c ∷ cs) = ap (λ b. b || any_held (λ k x. false) cs) (any_none c.1) ∙ none_held cs
 
   module _ (t : K → Bool) where
-    pub full-set_value : (xs : List X) (cs : List (K × List X)) → is_full xs ≡ true → are_full cs ≡ true → are_full (set_value t cs xs) ≡ true
+    pub full-set_value : (xs : List X) (cs : List (K × List X)) → is_filled xs ≡ true → are_full cs ≡ true → are_full (set_value t cs xs) ≡ true
     full-set_value xs [] one all = refl
     full-set_value xs (c ∷ cs) one all =
         elim (t c.0) as (λ b. are_full (cond b ((c.0, xs) ∷ cs) (c ∷ set_value t cs xs)) ≡ true) [
-          | true ↦ and_true _ _ one (and_right (is_full c.1) _ all)
-          | false ↦ and_true _ _ (and_left (is_full c.1) _ all) (full-set_value xs cs one (and_right (is_full c.1) _ all))
+          | true ↦ and_true _ _ one (and_right (is_filled c.1) _ all)
+          | false ↦ and_true _ _ (and_left (is_filled c.1) _ all) (full-set_value xs cs one (and_right (is_filled c.1) _ all))
         ]
 
     pub full-removed : (xs : List X) (cs : List (K × List X)) → are_full cs ≡ true → are_full (remove_entry t (set_value t cs xs)) ≡ true
     full-removed xs [] all = refl
     full-removed xs (c ∷ cs) all =
         elim (t c.0) as (λ b. t c.0 ≡ b → are_full (remove_entry t (cond b ((c.0, xs) ∷ cs) (c ∷ set_value t cs xs))) ≡ true) [
-          | true ↦ λ e. rw e (and_right (is_full c.1) _ all)
-          | false ↦ λ e. rw e (and_true _ _ (and_left (is_full c.1) _ all) (full-removed xs cs (and_right (is_full c.1) _ all)))
+          | true ↦ λ e. rw e (and_right (is_filled c.1) _ all)
+          | false ↦ λ e. rw e (and_true _ _ (and_left (is_filled c.1) _ all) (full-removed xs cs (and_right (is_filled c.1) _ all)))
         ] refl
 
-    pub found_full : (old : List X) (cs : List (K × List X)) → are_full cs ≡ true → lookup t cs ≡ Some old → is_full old ≡ true
+    pub found_full : (old : List X) (cs : List (K × List X)) → are_full cs ≡ true → lookup t cs ≡ Some old → is_filled old ≡ true
     found_full old [] all here = absurd (cc)
     found_full old (c ∷ cs) all here =
-        elim (t c.0) as (λ b. cond b (Some c.1) (lookup t cs) ≡ Some old → is_full old ≡ true) [
-          | true ↦ λ h. ap is_full (sym (same_some c.1 old h)) ∙ and_left (is_full c.1) _ all
-          | false ↦ λ h. found_full old cs (and_right (is_full c.1) _ all) h
+        elim (t c.0) as (λ b. cond b (Some c.1) (lookup t cs) ≡ Some old → is_filled old ≡ true) [
+          | true ↦ λ h. ap is_filled (sym (same_some c.1 old h)) ∙ and_left (is_filled c.1) _ all
+          | false ↦ λ h. found_full old cs (and_right (is_filled c.1) _ all) h
         ] here
 
     -- what is written back unchanged changes nothing
@@ -91,8 +91,8 @@ module _ {K X : Type 0} where
         ] here
 
     pub full-pushed : {A E : Type 0} (r : Result A E) (x : X) (old new : List X) (cs ds : List (K × List X)) → OnOk r (new ≡ old ++ x ∷ []) → OnErr r (new ≡ old) → are_full cs ≡ true → lookup t cs ≡ Some old → ds ≡ set_value t cs new → are_full ds ≡ true
-    full-pushed (Ok y) x old new cs ds ok err all here is = ap are_full is ∙ full-set_value new cs (ap is_full ok ∙ full-push old x) all
-    full-pushed (Err e) x old new cs ds ok err all here is = ap are_full is ∙ full-set_value new cs (ap is_full err ∙ found_full old cs all here) all
+    full-pushed (Ok y) x old new cs ds ok err all here is = ap are_full is ∙ full-set_value new cs (ap is_filled ok ∙ full-push old x) all
+    full-pushed (Err e) x old new cs ds ok err all here is = ap are_full is ∙ full-set_value new cs (ap is_filled err ∙ found_full old cs all here) all
 
     -- a key without members may be taken away
     pub any-removed : (s : K → X → Bool) (cs : List (K × List X)) → any_held s (remove_entry t (set_value t cs [])) ≡ any_held s (set_value t cs [])
@@ -104,7 +104,7 @@ module _ {K X : Type 0} where
         ] refl
 
   -- where a closure leaves out members at each key, and keys without
-  pub any-retained : {F : Type 0} (T : F → K → List X → Bool → List X → F → Type 0) (p : X → Bool) (f : F) → ((k : K) (v : List X) (b : Bool) (w : List X) (f' : F) → T f k v b w f' → (w ≡ filter p v) × ((b ≡ is_full w) × (f' ≡ f))) → (es kept : List (K × List X)) → RetainsPairs T f es kept
+  pub any-retained : {F : Type 0} (T : F → K → List X → Bool → List X → F → Type 0) (p : X → Bool) (f : F) → ((k : K) (v : List X) (b : Bool) (w : List X) (f' : F) → T f k v b w f' → (w ≡ filter p v) × ((b ≡ is_filled w) × (f' ≡ f))) → (es kept : List (K × List X)) → RetainsPairs T f es kept
       → (s : K → X → Bool) → any_held s kept ≡ any_held (λ k x. s k x && p x) es
   any-retained T p f h [] kept r s = ap (any_held s) r
   any-retained T p f h (e ∷ es) kept r s =
@@ -112,27 +112,27 @@ module _ {K X : Type 0} where
       let rest = any-retained T p f h es r.3 (subst (λ u. RetainsPairs T u es r.3) a.1.1 r.5) s in
       ap (any_held s) r.6 ∙ whole r.0 r.1 a.1.0 r.3 ∙ ap (λ b. list_any (s e.0) r.1 || b) rest ∙ ap (λ b. b || any_held (λ k x. s k x && p x) es) (ap (list_any (s e.0)) a.0 ∙ any-filter (s e.0) p e.1)
     where
-      whole : (b : Bool) (w : List X) → b ≡ is_full w → (rest : List (K × List X)) → any_held s (cond b ((e.0, w) ∷ rest) rest) ≡ (list_any (s e.0) w || any_held s rest)
+      whole : (b : Bool) (w : List X) → b ≡ is_filled w → (rest : List (K × List X)) → any_held s (cond b ((e.0, w) ∷ rest) rest) ≡ (list_any (s e.0) w || any_held s rest)
       whole b [] is rest = ap (λ c. any_held s (cond c ((e.0, []) ∷ rest) rest)) is
       whole b (x ∷ w) is rest = ap (λ c. any_held s (cond c ((e.0, x ∷ w) ∷ rest) rest)) is
 
-  pub full-retained : {F : Type 0} (T : F → K → List X → Bool → List X → F → Type 0) (p : X → Bool) (f : F) → ((k : K) (v : List X) (b : Bool) (w : List X) (f' : F) → T f k v b w f' → (w ≡ filter p v) × ((b ≡ is_full w) × (f' ≡ f))) → (es kept : List (K × List X)) → RetainsPairs T f es kept → are_full kept ≡ true
+  pub full-retained : {F : Type 0} (T : F → K → List X → Bool → List X → F → Type 0) (p : X → Bool) (f : F) → ((k : K) (v : List X) (b : Bool) (w : List X) (f' : F) → T f k v b w f' → (w ≡ filter p v) × ((b ≡ is_filled w) × (f' ≡ f))) → (es kept : List (K × List X)) → RetainsPairs T f es kept → are_full kept ≡ true
   full-retained T p f h [] kept r = ap are_full r
   full-retained T p f h (e ∷ es) kept r =
       let a = h e.0 e.1 r.0 r.1 r.2 r.4 in
       ap are_full r.6 ∙ whole r.0 r.1 a.1.0 r.3 (full-retained T p f h es r.3 (subst (λ u. RetainsPairs T u es r.3) a.1.1 r.5))
     where
-      whole : (b : Bool) (w : List X) → b ≡ is_full w → (rest : List (K × List X)) → are_full rest ≡ true → are_full (cond b ((e.0, w) ∷ rest) rest) ≡ true
+      whole : (b : Bool) (w : List X) → b ≡ is_filled w → (rest : List (K × List X)) → are_full rest ≡ true → are_full (cond b ((e.0, w) ∷ rest) rest) ≡ true
       whole b [] is rest all = ap (λ c. are_full (cond c ((e.0, []) ∷ rest) rest)) is ∙ all
       whole b (x ∷ w) is rest all = ap (λ c. are_full (cond c ((e.0, x ∷ w) ∷ rest) rest)) is ∙ all
 
-pub full-inserted : {K X : Type 0} (R : K → K → Ordering) (k : K) (xs : List X) (cs : List (K × List X)) → is_full xs ≡ true → are_full cs ≡ true → are_full (insert_entry R cs k xs) ≡ true
+pub full-inserted : {K X : Type 0} (R : K → K → Ordering) (k : K) (xs : List X) (cs : List (K × List X)) → is_filled xs ≡ true → are_full cs ≡ true → are_full (insert_entry R cs k xs) ≡ true
 full-inserted R k xs [] one all = and_true _ _ one refl
 full-inserted R k xs (c ∷ cs) one all =
     elim (R k c.0) as (λ o. are_full (match_ordering o ((k, xs) ∷ c ∷ cs) ((c.0, xs) ∷ cs) (c ∷ insert_entry R cs k xs)) ≡ true) [
       | Less ↦ and_true _ _ one all
-      | Equal ↦ and_true _ _ one (and_right (is_full c.1) _ all)
-      | Greater ↦ and_true _ _ (and_left (is_full c.1) _ all) (full-inserted R k xs cs one (and_right (is_full c.1) _ all))
+      | Equal ↦ and_true _ _ one (and_right (is_filled c.1) _ all)
+      | Greater ↦ and_true _ _ (and_left (is_filled c.1) _ all) (full-inserted R k xs cs one (and_right (is_filled c.1) _ all))
     ]
 
 module _ {K : Type 0} {R : K → K → Ordering} (exact : map_of.IsAntisymmetric R) (k : K) where

@@ -12,13 +12,13 @@ use Rattle.rds_dots.specs.declared.dot.Dot.{Dot}
 use Rattle.rds_tree.specs.Document.{Placed, entry_placed, entries_in}
 use Rattle.rds_tree.specs.View.{below, below_path, step_into, same_key, entries_view}
 use Rattle.rds_tree.specs.Row.{Row, placement, placed_all}
-use Rattle.rds_tree.specs.Growing.{row_of, rows_under, Holds}
+use Rattle.rds_tree.specs.Growing.{tree_row, rows_under, Holds}
 use Rattle.rds_tree.proofs.Kids.{flip_eq}
 use Rattle.rds_tree.proofs.SameView.{SameMembers, same_below_path, same_entries_view}
 
 -- the tree has those of the rows under the path that stand before the rest
 pub record IsGrowing (path : List (List ℕ)) (rows rest : List (Dot × Entry)) (tree : List Row) : Type 0 where
-  pub any : (t : Row → Bool) → (list_any t tree || list_any (λ r. t (row_of r)) (rows_under path rest)) ≡ list_any (λ r. t (row_of r)) (rows_under path rows)
+  pub any : (t : Row → Bool) → (list_any t tree || list_any (λ r. t (tree_row r)) (rows_under path rest)) ≡ list_any (λ r. t (tree_row r)) (rows_under path rows)
 
 abbrev is_under : List (List ℕ) → Dot × Entry → Bool
 is_under path r = starts_with bytes_eq r.1.path path

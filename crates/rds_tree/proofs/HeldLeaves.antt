@@ -31,8 +31,8 @@ use Rattle.rds_tree.specs.Cuts.{among_leaves, covered_leaf, covering, is_leaf, I
 use Rattle.rds_tree.specs.Gathered.{values_in}
 use Rattle.rds_tree.specs.Held.{among_any, among_dots, among_held, any_held, at_value, leaves_in, leaves_of, means}
 use Rattle.rds_tree.specs.Once.{once_is}
-use Rattle.rds_tree.specs.Row.{is_full, are_full, AddsLeaf}
-use Rattle.rds_tree.specs.View.{is_kind, values_once}
+use Rattle.rds_tree.specs.Row.{is_filled, are_full, AddsLeaf}
+use Rattle.rds_tree.specs.View.{is_that_kind, values_once}
 use Rattle.rds_tree.proofs.Grouped.{none_held, over}
 use Rattle.rds_tree.proofs.Kids.{flip_eq}
 use Rattle.rds_tree.proofs.SameView.{any-filter_map, passes}
@@ -64,17 +64,17 @@ any-leaves t regs elems =
 
 -- ---- whether there is one
 
-full-leaves_of : (kind : Kind) (held : Held) → are_full held ≡ true → is_full (leaves_of kind held) ≡ is_full held
+full-leaves_of : (kind : Kind) (held : Held) → are_full held ≡ true → is_filled (leaves_of kind held) ≡ is_filled held
 full-leaves_of kind [] all = refl
 full-leaves_of kind ((v, []) ∷ es) all = absurd (cc)
 full-leaves_of kind ((v, (d ∷ ds)) ∷ es) all = refl
 
-pub full-leaves : (regs elems : Held) → are_full regs ≡ true → are_full elems ≡ true → is_full (leaves_in regs elems) ≡ (is_full regs || is_full elems)
+pub full-leaves : (regs elems : Held) → are_full regs ≡ true → are_full elems ≡ true → is_filled (leaves_in regs elems) ≡ (is_filled regs || is_filled elems)
 full-leaves [] elems all every = full-leaves_of Elem elems every
 full-leaves ((v, []) ∷ regs) elems all every = absurd (cc)
 full-leaves ((v, (d ∷ ds)) ∷ regs) elems all every = refl
 
-pub regs_full : (regs elems : Held) → are_full regs ≡ true → is_full regs ≡ true → is_full (leaves_in regs elems) ≡ true
+pub regs_full : (regs elems : Held) → are_full regs ≡ true → is_filled regs ≡ true → is_filled (leaves_in regs elems) ≡ true
 regs_full [] elems all full = absurd (cc)
 regs_full ((v, []) ∷ regs) elems all full = absurd (cc)
 regs_full ((v, (d ∷ ds)) ∷ regs) elems all full = refl
@@ -251,10 +251,10 @@ of_kind Elem regs elems = elems
 
 any_values : (t : Scalar → Bool) (kind : Kind) (regs elems : Held) → are_full (of_kind kind regs elems) ≡ true → list_any t (values_in kind (leaves_in regs elems)) ≡ list_any t (map (λ e. e.0) (of_kind kind regs elems))
 any_values t Reg regs elems all =
-    any-filter_map t (λ l. cond (is_kind Reg l.kind) (Some l.value) None) (leaves_in regs elems) ∙ any-leaves (λ l. passes t (cond (is_kind Reg l.kind) (Some l.value) None)) regs elems
+    any-filter_map t (λ l. cond (is_that_kind Reg l.kind) (Some l.value) None) (leaves_in regs elems) ∙ any-leaves (λ l. passes t (cond (is_that_kind Reg l.kind) (Some l.value) None)) regs elems
     ∙ ap (λ b. any_held (λ v d. t v) regs || b) (none_held elems) ∙ or-false _ ∙ any_keys t regs all
 any_values t Elem regs elems all =
-    any-filter_map t (λ l. cond (is_kind Elem l.kind) (Some l.value) None) (leaves_in regs elems) ∙ any-leaves (λ l. passes t (cond (is_kind Elem l.kind) (Some l.value) None)) regs elems
+    any-filter_map t (λ l. cond (is_that_kind Elem l.kind) (Some l.value) None) (leaves_in regs elems) ∙ any-leaves (λ l. passes t (cond (is_that_kind Elem l.kind) (Some l.value) None)) regs elems
     ∙ ap (λ b. b || any_held (λ v d. t v) elems) (none_held regs) ∙ any_keys t elems all
 
 pub values_are : (kind : Kind) (leaves : List Leaf) (regs elems : Held) → leaves_in regs elems ≡ leaves → are_full (of_kind kind regs elems) ≡ true → IsStrictlySortedBy scalar_cmp (map (λ e. e.0) (of_kind kind regs elems)) → map (λ e. e.0) (of_kind kind regs elems) ≡ values_once (values_in kind leaves)

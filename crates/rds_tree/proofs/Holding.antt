@@ -29,12 +29,12 @@ use Rattle.rds_state.specs.declared.command.Command.{Command}
 use Rattle.rds_state.specs.declared.command.Command.TheVariants.{Set, Add, Del, Clear, Inc, Dec}
 use Rattle.rds_state.proofs.CountLemmas.{same_dot-tied}
 use Rattle.rds_tree.specs.declared.leaf.Leaf.{Leaf}
-use Rattle.rds_tree.specs.Cuts.{covered_leaf, covering, found_at, goes, is_deep, is_leaf, path_in, IsCut, IsRaise}
+use Rattle.rds_tree.specs.Cuts.{covered_leaf, covering, found_at, goes, is_deep, is_leaf, path_covered, IsCut, IsRaise}
 use Rattle.rds_tree.specs.Document.{key_cmp}
-use Rattle.rds_tree.specs.Growing.{row_of, Holds}
+use Rattle.rds_tree.specs.Growing.{tree_row, Holds}
 use Rattle.rds_tree.specs.Held.{among_dots, at_value, IsGathered}
-use Rattle.rds_tree.specs.Row.{Row, row_at, Adds}
-use Rattle.rds_tree.specs.View.{is_kind}
+use Rattle.rds_tree.specs.Row.{Row, leaf_row, AddsRow}
+use Rattle.rds_tree.specs.View.{is_that_kind}
 use Rattle.rds_tree.proofs.Cutting.{stays}
 use Rattle.rds_tree.proofs.Effects.{any_alike, live_passes, none_made, one_made, passes_live, rows_killed, rows_made}
 use Rattle.rds_tree.proofs.Growing.{same_test}
@@ -73,7 +73,7 @@ middle true false s = refl
 middle false true s = refl
 middle false false s = refl
 
-pub goes_covers : (c : Command) (r : Dot × Entry) → goes (covered_leaf c) (is_deep c) (path_in c) r.1.path (leaf_at r) ≡ covers c r.1
+pub goes_covers : (c : Command) (r : Dot × Entry) → goes (covered_leaf c) (is_deep c) (path_covered c) r.1.path (leaf_at r) ≡ covers c r.1
 goes_covers (Set p v) r = goes_shallow (covered_leaf (Set p v)) (leaf_at r) p r.1.path ∙ and_comm (same_path r.1.path p) (is_reg r.1.kind)
 goes_covers (Add p v) r = goes_shallow (covered_leaf (Add p v)) (leaf_at r) p r.1.path ∙ middle (same_path r.1.path p) (not (is_reg r.1.kind)) (same_scalar r.1.value v)
 goes_covers (Del p v) r = goes_shallow (covered_leaf (Del p v)) (leaf_at r) p r.1.path ∙ middle (same_path r.1.path p) (not (is_reg r.1.kind)) (same_scalar r.1.value v)
@@ -96,32 +96,32 @@ live_one e f h = cc
 pub tied : (d : Dot) → eq_by_cmp dot_cmp d d ≡ true
 tied d = ap is_eq (tied_itself dots_total d)
 
-pub finds : (c : Command) (path : List (List ℕ)) (v : Lived) (tree : List Row) → path ≡ path_in c → Holds (live_rows v) tree → (d : Dot) (e : Entry) → map.get v d ≡ Some (Live e) → found_at (covered_leaf c) (is_deep c) path tree d e ≡ covers c e
+pub finds : (c : Command) (path : List (List ℕ)) (v : Lived) (tree : List Row) → path ≡ path_covered c → Holds (live_rows v) tree → (d : Dot) (e : Entry) → map.get v d ≡ Some (Live e) → found_at (covered_leaf c) (is_deep c) path tree d e ≡ covers c e
 finds c path v tree at holds d e live =
     ap (λ p. found_at (covered_leaf c) (is_deep c) p tree d e) at
-    ∙ holds.any (λ r. goes (covered_leaf c) (is_deep c) (path_in c) r.path r.leaf && eq_by_cmp dot_cmp r.leaf.dot d)
+    ∙ holds.any (λ r. goes (covered_leaf c) (is_deep c) (path_covered c) r.path r.leaf && eq_by_cmp dot_cmp r.leaf.dot d)
     ∙ both_ways _ _
     (λ h. let p = live_passes hit v h in
-    let is : p.0 ≡ d = dot_is p.0 d (and_right (goes (covered_leaf c) (is_deep c) (path_in c) p.1.0.path (leaf_at (p.0, p.1.0))) _ p.1.1.1) in
+    let is : p.0 ≡ d = dot_is p.0 d (and_right (goes (covered_leaf c) (is_deep c) (path_covered c) p.1.0.path (leaf_at (p.0, p.1.0))) _ p.1.1.1) in
     let same : p.1.0 ≡ e = live_one p.1.0 e (sym p.1.1.0 ∙ ap (map.get v) is ∙ live) in
     ap (covers c) (sym same) ∙ sym (goes_covers c (p.0, p.1.0)) ∙ and_left _ (eq_by_cmp dot_cmp p.0 d) p.1.1.1)
     (λ h. passes_live hit v d e live (and_true _ _ (goes_covers c (d, e) ∙ h) (tied d)))
   where
     hit : Dot × Entry → Bool
-    hit r = goes (covered_leaf c) (is_deep c) (path_in c) r.1.path (leaf_at r) && eq_by_cmp dot_cmp r.0 d
+    hit r = goes (covered_leaf c) (is_deep c) (path_covered c) r.1.path (leaf_at r) && eq_by_cmp dot_cmp r.0 d
 
 -- and so is what was gathered
-pub finds_gathered : (c : Command) (path : List (List ℕ)) (v : Lived) (tree : List Row) (dots : List Dot) → path ≡ path_in c → Holds (live_rows v) tree → IsGathered (found_at (covered_leaf c) (is_deep c) path tree) [] dots → (d : Dot) (e : Entry) → map.get v d ≡ Some (Live e) → among_dots dots d e ≡ covers c e
+pub finds_gathered : (c : Command) (path : List (List ℕ)) (v : Lived) (tree : List Row) (dots : List Dot) → path ≡ path_covered c → Holds (live_rows v) tree → IsGathered (found_at (covered_leaf c) (is_deep c) path tree) [] dots → (d : Dot) (e : Entry) → map.get v d ≡ Some (Live e) → among_dots dots d e ≡ covers c e
 finds_gathered c path v tree dots at holds gathered d e live = gathered.any d e ∙ finds c path v tree at holds d e live
 
 -- ---- the tree after an edit
 
-pub holds_killed : (c : Command) (path : List (List ℕ)) (a b : StateValue) (own : ℕ) (old new : List Row) → path ≡ path_in c → parts_of c ≡ None → Holds (live_rows a.lives) old → IsCut (covering c None) (is_deep c) path old new → JoinsEffect (coordinates a) own c (coordinates b) → Holds (live_rows b.lives) new
+pub holds_killed : (c : Command) (path : List (List ℕ)) (a b : StateValue) (own : ℕ) (old new : List Row) → path ≡ path_covered c → parts_of c ≡ None → Holds (live_rows a.lives) old → IsCut (covering c None) (is_deep c) path old new → JoinsEffect (coordinates a) own c (coordinates b) → Holds (live_rows b.lives) new
 holds_killed c path a b own old new at none holds cut joins = record {
   any = λ t.
       cut.any t ∙ holds.any (stays (covering c None) (is_deep c) path t)
-      ∙ any_alike _ (λ r. t (row_of r) && not (covers c r.1)) a.lives (λ d e live. ap (λ b. t (row_of (d, e)) && not b) (ap (λ p. goes (covering c None) (is_deep c) p e.path (leaf_at (d, e))) at ∙ goes_covers c (d, e)))
-      ∙ sym (rows_killed c a b own (λ r. t (row_of r)) (joined (none_made c joins.made none joins.is_made)));
+      ∙ any_alike _ (λ r. t (tree_row r) && not (covers c r.1)) a.lives (λ d e live. ap (λ b. t (tree_row (d, e)) && not b) (ap (λ p. goes (covering c None) (is_deep c) p e.path (leaf_at (d, e))) at ∙ goes_covers c (d, e)))
+      ∙ sym (rows_killed c a b own (λ r. t (tree_row r)) (joined (none_made c joins.made none joins.is_made)));
 }
   where
     joined : joins.made ≡ None → coordinates b ≡ join (coordinates a) (effect (coordinates a) own c None)
@@ -131,8 +131,8 @@ pub holds_raised : (c : Command) (a b : StateValue) (own : ℕ) (tree : List Row
 holds_raised c a b own tree none covers_none holds joins = record {
   any = λ t.
       holds.any t
-      ∙ any_alike (λ r. t (row_of r)) (λ r. t (row_of r) && not (covers c r.1)) a.lives (λ d e live. sym (ap (λ b. t (row_of (d, e)) && not b) (covers_none e) ∙ and-true (t (row_of (d, e)))))
-      ∙ sym (rows_killed c a b own (λ r. t (row_of r)) (joins.joined ∙ ap (λ m. join (coordinates a) (effect (coordinates a) own c m)) (none_made c joins.made none joins.is_made)));
+      ∙ any_alike (λ r. t (tree_row r)) (λ r. t (tree_row r) && not (covers c r.1)) a.lives (λ d e live. sym (ap (λ b. t (tree_row (d, e)) && not b) (covers_none e) ∙ and-true (t (tree_row (d, e)))))
+      ∙ sym (rows_killed c a b own (λ r. t (tree_row r)) (joins.joined ∙ ap (λ m. join (coordinates a) (effect (coordinates a) own c m)) (none_made c joins.made none joins.is_made)));
 }
 
 pub itself : (d : Dot) → is_same d d ≡ true
@@ -148,7 +148,7 @@ apart v new d e unseen live = by (is_same new d) refl
     by true is = absurd (no_life (sym unseen ∙ ap (map.get v) (dot_is new d (same_dot-tied new d ∙ is)) ∙ live))
     by false is = refl
 
-pub shallow_parts : (c : Command) (p : Parts) → parts_of c ≡ Some p → (is_deep c ≡ false) × (p.path ≡ path_in c)
+pub shallow_parts : (c : Command) (p : Parts) → parts_of c ≡ Some p → (is_deep c ≡ false) × (p.path ≡ path_covered c)
 shallow_parts (Set q v) p is = let path : p.path ≡ q = cc is in (refl, path)
 shallow_parts (Add q v) p is = let path : p.path ≡ q = cc is in (refl, path)
 shallow_parts (Del q v) p is = cc is
@@ -173,42 +173,42 @@ module _ (c : Command) (p : Parts) (is : parts_of c ≡ Some p) (a : StateValue)
       ∙ ap (λ q. goes (covered_leaf c) (is_deep c) q e.path (leaf_at (d, e))) (shallow_parts c p is).1
       ∙ goes_covers c (d, e)
 
-  same_row : (e : Entry) → HasParts p.path p.kind p.value e → (d : Dot) → d ≡ new → row_of (d, e) ≡ row_at p.path leaf
+  same_row : (e : Entry) → HasParts p.path p.kind p.value e → (d : Dot) → d ≡ new → tree_row (d, e) ≡ leaf_row p.path leaf
   same_row e has d at = λ i. record { path = has.at i; leaf = record { kind = has.stands i; value = has.holds i; dot = at i } }
 
-  pub holds_made : (b : StateValue) (old mid tree : List Row) → new ≡ dot_of own (own_top (coordinates a) own + 1) → Holds (live_rows a.lives) old → Adds old (row_at p.path leaf) mid → IsCut (covering c (Some new)) (is_deep c) p.path mid tree → JoinsEffect (coordinates a) own c (coordinates b) → Holds (live_rows b.lives) tree
+  pub holds_made : (b : StateValue) (old mid tree : List Row) → new ≡ dot_of own (own_top (coordinates a) own + 1) → Holds (live_rows a.lives) old → AddsRow old (leaf_row p.path leaf) mid → IsCut (covering c (Some new)) (is_deep c) p.path mid tree → JoinsEffect (coordinates a) own c (coordinates b) → Holds (live_rows b.lives) tree
   holds_made b old mid tree at holds adds cut joins = record {
     any = λ t.
         let made = one_made c p joins.made is joins.is_made in
         let e = made.0 in
-        let test : Dot × Entry → Bool = λ r. t (row_of r) in
+        let test : Dot × Entry → Bool = λ r. t (tree_row r) in
         let next = dot_of own (own_top (coordinates a) own + 1) in
         cut.any t ∙ adds.any (stays (covering c (Some new)) (is_deep c) p.path t)
-        ∙ ap (λ x. (t (row_at p.path leaf) && not x) || list_any (stays (covering c (Some new)) (is_deep c) p.path t) old) own_stays
-        ∙ ap (λ x. x || list_any (stays (covering c (Some new)) (is_deep c) p.path t) old) (and-true (t (row_at p.path leaf)))
-        ∙ ap (λ x. t (row_at p.path leaf) || x) (holds.any (stays (covering c (Some new)) (is_deep c) p.path t)
-        ∙ any_alike (λ r. stays (covering c (Some new)) (is_deep c) p.path t (row_of r)) (λ r. t (row_of r) && not (covers c r.1)) a.lives (λ d f live. ap (λ x. t (row_of (d, f)) && not x) (others_go d f live)))
-        ∙ ap (λ row. t row || list_any (λ r. t (row_of r) && not (covers c r.1)) (live_rows a.lives)) (sym (same_row e made.1.1 next (sym at)))
+        ∙ ap (λ x. (t (leaf_row p.path leaf) && not x) || list_any (stays (covering c (Some new)) (is_deep c) p.path t) old) own_stays
+        ∙ ap (λ x. x || list_any (stays (covering c (Some new)) (is_deep c) p.path t) old) (and-true (t (leaf_row p.path leaf)))
+        ∙ ap (λ x. t (leaf_row p.path leaf) || x) (holds.any (stays (covering c (Some new)) (is_deep c) p.path t)
+        ∙ any_alike (λ r. stays (covering c (Some new)) (is_deep c) p.path t (tree_row r)) (λ r. t (tree_row r) && not (covers c r.1)) a.lives (λ d f live. ap (λ x. t (tree_row (d, f)) && not x) (others_go d f live)))
+        ∙ ap (λ row. t row || list_any (λ r. t (tree_row r) && not (covers c r.1)) (live_rows a.lives)) (sym (same_row e made.1.1 next (sym at)))
         ∙ sym (rows_made c a b own test e (joins.joined ∙ ap (λ m. join (coordinates a) (effect (coordinates a) own c m)) made.1.0) (ap (map.get a.lives) (sym at) ∙ unseen));
   }
 
   -- where nothing is covered, nothing goes
-  pub none_cut : (old mid : List Row) → Holds (live_rows a.lives) old → Adds old (row_at p.path leaf) mid → ((d : Dot) (e : Entry) → found_at (covered_leaf c) (is_deep c) p.path old d e ≡ false) → IsCut (covering c (Some new)) (is_deep c) p.path mid mid
+  pub none_cut : (old mid : List Row) → Holds (live_rows a.lives) old → AddsRow old (leaf_row p.path leaf) mid → ((d : Dot) (e : Entry) → found_at (covered_leaf c) (is_deep c) p.path old d e ≡ false) → IsCut (covering c (Some new)) (is_deep c) p.path mid mid
   none_cut old mid holds adds none = record {
     any = λ t.
-        adds.any t ∙ ap (λ x. t (row_at p.path leaf) || x) (all_stay t)
-        ∙ ap (λ x. x || list_any (stays (covering c (Some new)) (is_deep c) p.path t) old) (sym (ap (λ x. t (row_at p.path leaf) && not x) own_stays ∙ and-true (t (row_at p.path leaf))))
+        adds.any t ∙ ap (λ x. t (leaf_row p.path leaf) || x) (all_stay t)
+        ∙ ap (λ x. x || list_any (stays (covering c (Some new)) (is_deep c) p.path t) old) (sym (ap (λ x. t (leaf_row p.path leaf) && not x) own_stays ∙ and-true (t (leaf_row p.path leaf))))
         ∙ sym (adds.any (stays (covering c (Some new)) (is_deep c) p.path t));
   }
     where
-      stay : (t : Row → Bool) (d : Dot) (e : Entry) → map.get a.lives d ≡ Some (Live e) → stays (covering c (Some new)) (is_deep c) p.path t (row_of (d, e)) ≡ t (row_of (d, e))
+      stay : (t : Row → Bool) (d : Dot) (e : Entry) → map.get a.lives d ≡ Some (Live e) → stays (covering c (Some new)) (is_deep c) p.path t (tree_row (d, e)) ≡ t (tree_row (d, e))
       stay t d e live =
-          ap (λ x. t (row_of (d, e)) && not x) (others_go d e live ∙ sym (finds c p.path a.lives old (shallow_parts c p is).1 holds d e live) ∙ none d e)
-          ∙ and-true (t (row_of (d, e)))
+          ap (λ x. t (tree_row (d, e)) && not x) (others_go d e live ∙ sym (finds c p.path a.lives old (shallow_parts c p is).1 holds d e live) ∙ none d e)
+          ∙ and-true (t (tree_row (d, e)))
 
       all_stay : (t : Row → Bool) → list_any t old ≡ list_any (stays (covering c (Some new)) (is_deep c) p.path t) old
       all_stay t =
-          holds.any t ∙ sym (any_alike (λ r. stays (covering c (Some new)) (is_deep c) p.path t (row_of r)) (λ r. t (row_of r)) a.lives (stay t))
+          holds.any t ∙ sym (any_alike (λ r. stays (covering c (Some new)) (is_deep c) p.path t (tree_row r)) (λ r. t (tree_row r)) a.lives (stay t))
           ∙ sym (holds.any (stays (covering c (Some new)) (is_deep c) p.path t))
 
 pub same_itself : (p : List (List ℕ)) → pointwise bytes_eq p p ≡ true
@@ -217,7 +217,7 @@ same_itself (k ∷ p) = and_true _ _ (sym (key_test k k) ∙ key_itself k) (same
 
 -- ---- one leaf
 
-kind_itself : (k : Kind) → is_kind k k ≡ true
+kind_itself : (k : Kind) → is_that_kind k k ≡ true
 kind_itself Reg = refl
 kind_itself Elem = refl
 
@@ -225,17 +225,17 @@ pub leaf_itself : (k : Kind) (v : Scalar) (d : Dot) → is_leaf k v d (record { 
 leaf_itself k v d = and_true _ _ (kind_itself k) (and_true _ _ (ap is_eq (tied_itself scalars_total v)) (itself d))
 
 pub leaf_dot : (k : Kind) (v : Scalar) (d : Dot) (l : Leaf) → is_leaf k v d l ≡ true → is_same d l.dot ≡ true
-leaf_dot k v d l h = and_right (at_value v l.value) _ (and_right (is_kind k l.kind) _ h)
+leaf_dot k v d l h = and_right (at_value v l.value) _ (and_right (is_that_kind k l.kind) _ h)
 
 -- a leaf that was added and is taken out again
-pub holds_undone : (v : Lived) (path : List (List ℕ)) (l : Leaf) (old mid tree : List Row) → map.get v l.dot ≡ None → Holds (live_rows v) old → Adds old (row_at path l) mid → IsCut (is_leaf l.kind l.value l.dot) false path mid tree → Holds (live_rows v) tree
+pub holds_undone : (v : Lived) (path : List (List ℕ)) (l : Leaf) (old mid tree : List Row) → map.get v l.dot ≡ None → Holds (live_rows v) old → AddsRow old (leaf_row path l) mid → IsCut (is_leaf l.kind l.value l.dot) false path mid tree → Holds (live_rows v) tree
 holds_undone v path l old mid tree unseen holds adds cut = record {
   any = λ t.
       cut.any t ∙ adds.any (stays picks false path t)
-      ∙ ap (λ x. (t (row_at path l) && not x) || list_any (stays picks false path t) old) gone
-      ∙ ap (λ x. x || list_any (stays picks false path t) old) (and-false (t (row_at path l)))
+      ∙ ap (λ x. (t (leaf_row path l) && not x) || list_any (stays picks false path t) old) gone
+      ∙ ap (λ x. x || list_any (stays picks false path t) old) (and-false (t (leaf_row path l)))
       ∙ holds.any (stays picks false path t)
-      ∙ any_alike (λ r. stays picks false path t (row_of r)) (λ r. t (row_of r)) v (λ d e live. ap (λ x. t (row_of (d, e)) && not x) (other d e live) ∙ and-true (t (row_of (d, e))));
+      ∙ any_alike (λ r. stays picks false path t (tree_row r)) (λ r. t (tree_row r)) v (λ d e live. ap (λ x. t (tree_row (d, e)) && not x) (other d e live) ∙ and-true (t (tree_row (d, e))));
 }
   where
     picks : Leaf → Bool
@@ -250,8 +250,8 @@ holds_undone v path l old mid tree unseen holds adds cut = record {
     other : (d : Dot) (e : Entry) → map.get v d ≡ Some (Live e) → goes picks false path e.path (leaf_at (d, e)) ≡ false
     other d e live =
         goes_shallow picks (leaf_at (d, e)) path e.path
-        ∙ ap (λ x. pointwise bytes_eq e.path path && (is_kind l.kind e.kind && (at_value l.value e.value && x))) (apart v l.dot d e unseen live)
-        ∙ third_none (pointwise bytes_eq e.path path) (is_kind l.kind e.kind) (at_value l.value e.value)
+        ∙ ap (λ x. pointwise bytes_eq e.path path && (is_that_kind l.kind e.kind && (at_value l.value e.value && x))) (apart v l.dot d e unseen live)
+        ∙ third_none (pointwise bytes_eq e.path path) (is_that_kind l.kind e.kind) (at_value l.value e.value)
 
 pub raise_covers : (c : Command) → IsRaise c → (e : Entry) → covers c e ≡ false
 raise_covers (Set p v) is e = absurd is

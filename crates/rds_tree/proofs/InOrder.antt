@@ -15,7 +15,7 @@ use Rattle.rds_tree.specs.Document.{Placed, entries_in, key_cmp, counted_keys, s
 use Rattle.rds_names.specs.Orders.{scalar_cmp}
 use Rattle.rds_tree.specs.Shown.{Shown, maps_of}
 use Rattle.rds_tree.specs.Shows.{Ascend, IsInOrder, SumsAscend, map_keys}
-use Rattle.rds_tree.specs.View.{below, below_path, children, counters_at, entries_view, first_key, goes_on, keys_in}
+use Rattle.rds_tree.specs.View.{below, below_path, children, counters_shown, entries_view, first_key, goes_deeper, keys_below}
 use Rattle.rds_tree.specs.View.{shown_to, value_here, values_by_key, values_here, view_of, with_key}
 use Rattle.rds_tree.proofs.Members.{once_rises}
 
@@ -68,24 +68,24 @@ module _ (kind : Kind) (es : List Placed) where
   all_ascend [] = tt
   all_ascend (x ∷ ks) = one_ascends x (values_here kind (below x es)) (rows_at ks) (once_rises scalar_cmp (filter_map (λ e. value_here kind e.kind e.value e.path) (below x es))) (all_ascend ks)
 
-keys_rise : (es : List Placed) → IsStrictlySortedBy key_cmp (keys_in es)
+keys_rise : (es : List Placed) → IsStrictlySortedBy key_cmp (keys_below es)
 keys_rise es = once_rises key_cmp (filter_map (λ e. first_key e.path) es)
 
 values_ascend : (kind : Kind) (es : List Placed) → Ascend (values_by_key kind (children es))
-values_ascend kind es = record { keys = rows_rise kind es (keys_in es) (keys_rise es); some = all_some kind es (keys_in es); values = all_ascend kind es (keys_in es) }
+values_ascend kind es = record { keys = rows_rise kind es (keys_below es) (keys_rise es); some = all_some kind es (keys_below es); values = all_ascend kind es (keys_below es) }
 
 -- ---- maps
 
 module _ (f : List Placed → Shown) (es : List Placed) where
   abbrev maps_at : List (List ℕ) → List (List ℕ × Shown)
-  maps_at ks = filter_map (λ (c : List ℕ × List Placed). if goes_on c.1 then Some (c.0, f c.1) else None) (map (λ k. (k, below k es)) ks)
+  maps_at ks = filter_map (λ (c : List ℕ × List Placed). if goes_deeper c.1 then Some (c.0, f c.1) else None) (map (λ k. (k, below k es)) ks)
 
   abbrev map_names : List (List ℕ) → List (List ℕ)
   map_names ks = map_keys (maps_of (maps_at ks))
 
   maps_below : (k : List ℕ) (ks : List (List ℕ)) → Below k ks → Below k (map_names ks)
   maps_below k [] h = tt
-  maps_below k (x ∷ ks) h = elim (goes_on (below x es)) as (λ b. Below k (map_keys (maps_of (cons_option (cond b (Some (x, f (below x es))) None) (maps_at ks))))) [
+  maps_below k (x ∷ ks) h = elim (goes_deeper (below x es)) as (λ b. Below k (map_keys (maps_of (cons_option (cond b (Some (x, f (below x es))) None) (maps_at ks))))) [
     | true ↦ (h.0, maps_below k ks h.1)
     | false ↦ maps_below k ks h.1
   ]
@@ -93,7 +93,7 @@ module _ (f : List Placed → Shown) (es : List Placed) where
   maps_rise : (ks : List (List ℕ)) → IsStrictlySortedBy key_cmp ks → IsStrictlySortedBy key_cmp (map_names ks)
   unfolding IsStrictlySortedBy
   maps_rise [] h = tt
-  maps_rise (x ∷ ks) h = elim (goes_on (below x es)) as (λ b. IsStrictlySortedBy key_cmp (map_keys (maps_of (cons_option (cond b (Some (x, f (below x es))) None) (maps_at ks))))) [
+  maps_rise (x ∷ ks) h = elim (goes_deeper (below x es)) as (λ b. IsStrictlySortedBy key_cmp (map_keys (maps_of (cons_option (cond b (Some (x, f (below x es))) None) (maps_at ks))))) [
     | true ↦ (maps_below x ks h.0, maps_rise ks h.1)
     | false ↦ maps_rise ks h.1
   ]
@@ -104,7 +104,7 @@ firsts : (f : List ℕ → ℤ) (ks : List (List ℕ)) → ks ≡ map (λ (r : L
 firsts f [] = refl
 firsts f (k ∷ ks) = ap (λ xs. k ∷ xs) (firsts f ks)
 
-sums_rise : (v : StateValue) (path : List (List ℕ)) → SumsAscend (counters_at path (sums_of v.counts))
+sums_rise : (v : StateValue) (path : List (List ℕ)) → SumsAscend (counters_shown path (sums_of v.counts))
 sums_rise v (k ∷ path) = tt
 sums_rise v [] = subst (IsStrictlySortedBy key_cmp) (firsts (value_of v.counts) (counted_keys v.counts)) (once_rises key_cmp (map (λ e. e.0.key) (map_of.entries v.counts)))
 
@@ -113,7 +113,7 @@ unfolding entries_view
 in_order v path =
     let es = below_path path (entries_in (live_rows v.lives)) in
     record {
-      maps = maps_rise (shown_to 7 None) es (keys_in es) (keys_rise es);
+      maps = maps_rise (shown_to 7 None) es (keys_below es) (keys_rise es);
       regs = values_ascend Reg es;
       sets = values_ascend Elem es;
       counters = sums_rise v path;

@@ -17,7 +17,7 @@ use Rattle.rds_tree.specs.declared.leaf.Leaf.{Leaf}
 use Rattle.rds_tree.specs.Cuts.{goes, found_at, among, among_each, among_leaves}
 use Rattle.rds_tree.specs.Held.{is_but}
 use Rattle.rds_tree.specs.Document.{key_cmp}
-use Rattle.rds_tree.specs.Row.{Row, under, at_end, rows_of}
+use Rattle.rds_tree.specs.Row.{Row, under, at_end, rows_in_node}
 use Rattle.rds_tree.proofs.Adding.{any-rows, no_keys}
 use Rattle.rds_tree.proofs.Cutting.{at_key, keys_exact, same_some, AreOthers, others_above, others_none, goes_all}
 
@@ -108,14 +108,14 @@ same_pass t u [] same = refl
 same_pass t u (x ∷ xs) same = ap (λ b. b || list_any t xs) (same x) ∙ ap (λ b. u x || b) (same_pass t u xs same)
 
 -- all rows: the leaves, and the trees below
-among_whole : (leaves : List Leaf) (cs : List (List ℕ × List Row)) (d : Dot) (e : Entry) → among (rows_of leaves cs) d e ≡ (among_leaves (λ l. true) leaves d e || among_each (map (λ c. c.1) cs) d e)
+among_whole : (leaves : List Leaf) (cs : List (List ℕ × List Row)) (d : Dot) (e : Entry) → among (rows_in_node leaves cs) d e ≡ (among_leaves (λ l. true) leaves d e || among_each (map (λ c. c.1) cs) d e)
 among_whole leaves cs d e = any-rows (λ r. eq_by_cmp dot_cmp r.leaf.dot d) leaves cs ∙ ap (λ b. list_any (λ l. eq_by_cmp dot_cmp l.dot d) leaves || b) (each cs)
   where
     each : (cs : List (List ℕ × List Row)) → list_any (below_passes (λ r. eq_by_cmp dot_cmp r.leaf.dot d)) cs ≡ among_each (map (λ c. c.1) cs) d e
     each [] = refl
     each (c ∷ cs) = ap (λ b. among c.1 d e || b) (each cs)
 
-pub among_node : (rows : List Row) (leaves : List Leaf) (cs : List (List ℕ × List Row)) (trees : List (List Row)) (d : Dot) (e : Entry) → rows_of leaves cs ≡ rows → trees ≡ map (λ c. c.1) cs → among rows d e ≡ (among_leaves (λ l. true) leaves d e || among_each trees d e)
+pub among_node : (rows : List Row) (leaves : List Leaf) (cs : List (List ℕ × List Row)) (trees : List (List Row)) (d : Dot) (e : Entry) → rows_in_node leaves cs ≡ rows → trees ≡ map (λ c. c.1) cs → among rows d e ≡ (among_leaves (λ l. true) leaves d e || among_each trees d e)
 among_node rows leaves cs trees d e is each = ap (λ rs. among rs d e) (sym is) ∙ among_whole leaves cs d e ∙ ap (λ ts. among_leaves (λ l. true) leaves d e || among_each ts d e) (sym each)
 
 -- at the end of the path, where all goes
@@ -125,7 +125,7 @@ found_deep picks deep path rows d e whole none =
     (same_pass (λ r. eq_by_cmp dot_cmp r.leaf.dot d) (λ r. goes picks true [] r.path r.leaf && eq_by_cmp dot_cmp r.leaf.dot d) rows (λ r. ap (λ b. b && eq_by_cmp dot_cmp r.leaf.dot d) (sym (goes_all picks r.path r.leaf)))))
 
 -- at the end of the path, where leaves go
-pub found_here : (picks : Leaf → Bool) (deep : Bool) (path : List (List ℕ)) (rows : List Row) (leaves : List Leaf) (cs : List (List ℕ × List Row)) (d : Dot) (e : Entry) → deep ≡ false → length path ≡ 0 → rows_of leaves cs ≡ rows → among_leaves picks leaves d e ≡ found_at picks deep path rows d e
+pub found_here : (picks : Leaf → Bool) (deep : Bool) (path : List (List ℕ)) (rows : List Row) (leaves : List Leaf) (cs : List (List ℕ × List Row)) (d : Dot) (e : Entry) → deep ≡ false → length path ≡ 0 → rows_in_node leaves cs ≡ rows → among_leaves picks leaves d e ≡ found_at picks deep path rows d e
 found_here picks deep path rows leaves cs d e shallow none is =
     subst (λ b. among_leaves picks leaves d e ≡ found_at picks b path rows d e) (sym shallow) (subst (λ p. among_leaves picks leaves d e ≡ found_at picks false p rows d e) (sym (no_keys path none))
     (sym (ap (λ rs. found_at picks false [] rs d e) (sym is) ∙ any-rows (λ r. goes picks false [] r.path r.leaf && eq_by_cmp dot_cmp r.leaf.dot d) leaves cs
@@ -158,10 +158,10 @@ module _ (picks : Leaf → Bool) (deep : Bool) (k : List ℕ) (p : List (List �
   no_leaf : (leaves : List Leaf) → list_any (λ l. hits (at_end l)) leaves ≡ false
   no_leaf leaves = none_pass (λ l. hits (at_end l)) leaves (λ l. refl)
 
-  pub found_none : (path : List (List ℕ)) (rows : List Row) (leaves : List Leaf) (cs : List (List ℕ × List Row)) → path ≡ k ∷ p → rows_of leaves cs ≡ rows → None ≡ lookup (at_key k) cs → found_at picks deep path rows d e ≡ false
+  pub found_none : (path : List (List ℕ)) (rows : List Row) (leaves : List Leaf) (cs : List (List ℕ × List Row)) → path ≡ k ∷ p → rows_in_node leaves cs ≡ rows → None ≡ lookup (at_key k) cs → found_at picks deep path rows d e ≡ false
   found_none path rows leaves cs split is none =
       ap (λ q. found_at picks deep q rows d e) split ∙ ap (list_any hits) (sym is) ∙ any-rows hits leaves cs ∙ ap (λ b. b || list_any (below_passes hits) cs) (no_leaf leaves) ∙ all_missed cs (others_none k cs (sym none))
 
-  pub found_child : (path : List (List ℕ)) (rows child : List Row) (leaves : List Leaf) (cs : List (List ℕ × List Row)) → path ≡ k ∷ p → rows_of leaves cs ≡ rows → IsStrictlySortedBy key_cmp (map (λ c. c.0) cs) → Some child ≡ lookup (at_key k) cs → found_at picks deep p child d e ≡ found_at picks deep path rows d e
+  pub found_child : (path : List (List ℕ)) (rows child : List Row) (leaves : List Leaf) (cs : List (List ℕ × List Row)) → path ≡ k ∷ p → rows_in_node leaves cs ≡ rows → IsStrictlySortedBy key_cmp (map (λ c. c.0) cs) → Some child ≡ lookup (at_key k) cs → found_at picks deep p child d e ≡ found_at picks deep path rows d e
   found_child path rows child leaves cs split is rise here =
       sym (ap (λ q. found_at picks deep q rows d e) split ∙ ap (list_any hits) (sym is) ∙ any-rows hits leaves cs ∙ ap (λ b. b || list_any (below_passes hits) cs) (no_leaf leaves) ∙ one_met child cs rise (sym here))

@@ -21,8 +21,8 @@ use Rattle.rds_tree.specs.Document.{Placed, entries_in, sums_of, document}
 use Rattle.rds_tree.specs.Gathered.{child_maps}
 use Rattle.rds_tree.specs.Shown.{Shown, shows, maps_of}
 use Rattle.rds_tree.specs.Shows.{IsLiveBelow, map_at, maps_in}
-use Rattle.rds_tree.specs.View.{below, below_path, children, counters_at, entries_view, first_key, goes_on, is_below}
-use Rattle.rds_tree.specs.View.{keys_in, same_key, shown_to, step_into, values_by_key, view_of}
+use Rattle.rds_tree.specs.View.{below, below_path, children, counters_shown, entries_view, first_key, goes_deeper, is_below}
+use Rattle.rds_tree.specs.View.{keys_below, same_key, shown_to, step_into, values_by_key, view_of}
 use Rattle.rds_tree.proofs.Kids.{fit, fit-below_path, itself}
 use Rattle.rds_tree.proofs.Members.{any-once, any_wider}
 use Rattle.rds_tree.proofs.Reached.{any-below, any-below_path, is_reached, keys_exact, placed_at, reached, reaches}
@@ -34,21 +34,21 @@ use Rattle.rds_tree.proofs.Walked.{no_fit, suc_le}
 
 module _ (f : List Placed → Shown) (g : List ℕ → List Placed) (key : List ℕ) where
   abbrev kept : List (List ℕ) → List (List ℕ × Shown)
-  kept ks = filter_map (λ (c : List ℕ × List Placed). if goes_on c.1 then Some (c.0, f c.1) else None) (map (λ k. (k, g k)) ks)
+  kept ks = filter_map (λ (c : List ℕ × List Placed). if goes_deeper c.1 then Some (c.0, f c.1) else None) (map (λ k. (k, g k)) ks)
 
   abbrev here : List (List ℕ) → Option Shown
-  here ks = cond (list_any (same_key key) ks && goes_on (g key)) (Some (f (g key))) None
+  here ks = cond (list_any (same_key key) ks && goes_deeper (g key)) (Some (f (g key))) None
 
   map_at-of : (ks : List (List ℕ)) → map_at (maps_of (kept ks)) key ≡ here ks
   map_at-of [] = refl
   map_at-of (k ∷ ks) =
-      elim (goes_on (g k)) as (λ b. goes_on (g k) ≡ b → map_at (maps_of (cons_option (cond b (Some (k, f (g k))) None) (kept ks))) key ≡ here (k ∷ ks)) [
-        | true ↦ λ on. elim (same_key key k) as (λ b. same_key key k ≡ b → cond b (Some (f (g k))) (map_at (maps_of (kept ks)) key) ≡ cond ((b || list_any (same_key key) ks) && goes_on (g key)) (Some (f (g key))) None) [
-          | true ↦ λ is. ap (λ q. Some (f (g q))) (sym (keys_exact key k is)) ∙ sym (ap (λ b. cond b (Some (f (g key))) None) (ap (λ q. goes_on (g q)) (keys_exact key k is) ∙ on))
+      elim (goes_deeper (g k)) as (λ b. goes_deeper (g k) ≡ b → map_at (maps_of (cons_option (cond b (Some (k, f (g k))) None) (kept ks))) key ≡ here (k ∷ ks)) [
+        | true ↦ λ on. elim (same_key key k) as (λ b. same_key key k ≡ b → cond b (Some (f (g k))) (map_at (maps_of (kept ks)) key) ≡ cond ((b || list_any (same_key key) ks) && goes_deeper (g key)) (Some (f (g key))) None) [
+          | true ↦ λ is. ap (λ q. Some (f (g q))) (sym (keys_exact key k is)) ∙ sym (ap (λ b. cond b (Some (f (g key))) None) (ap (λ q. goes_deeper (g q)) (keys_exact key k is) ∙ on))
           | false ↦ λ _. map_at-of ks
         ] refl
-        | false ↦ λ off. elim (same_key key k) as (λ b. same_key key k ≡ b → map_at (maps_of (kept ks)) key ≡ cond ((b || list_any (same_key key) ks) && goes_on (g key)) (Some (f (g key))) None) [
-          | true ↦ λ is. let none = ap (λ q. goes_on (g q)) (keys_exact key k is) ∙ off in
+        | false ↦ λ off. elim (same_key key k) as (λ b. same_key key k ≡ b → map_at (maps_of (kept ks)) key ≡ cond ((b || list_any (same_key key) ks) && goes_deeper (g key)) (Some (f (g key))) None) [
+          | true ↦ λ is. let none = ap (λ q. goes_deeper (g q)) (keys_exact key k is) ∙ off in
               map_at-of ks ∙ ap (λ b. cond (list_any (same_key key) ks && b) (Some (f (g key))) None) none ∙ ap (λ b. cond b (Some (f (g key))) None) (and-false (list_any (same_key key) ks))
               ∙ sym (ap (λ b. cond b (Some (f (g key))) None) none)
           | false ↦ λ _. map_at-of ks
@@ -60,7 +60,7 @@ module _ (f : List Placed → Shown) (g : List ℕ → List Placed) (key : List 
 abbrev goes_below : Placed → Bool
 goes_below e = is_below e.path
 
-key_stands : (key : List ℕ) (es : List Placed) → goes_on (below key es) ≡ true → list_any (same_key key) (keys_in es) ≡ true
+key_stands : (key : List ℕ) (es : List Placed) → goes_deeper (below key es) ≡ true → list_any (same_key key) (keys_below es) ≡ true
 key_stands key es on =
     any-once nat_list_cmp_total (slice_cmp-IsAntisymmetric nat_cmp-IsAntisymmetric) (same_key key) (filter_map (λ e. first_key e.path) es)
     ∙ any-filter_map (same_key key) (λ e. first_key e.path) es
@@ -68,10 +68,10 @@ key_stands key es on =
     (λ e under. let r = reached goes_below (key ∷ []) e.kind e.value e.path under in ap (λ p. passes (same_key key) (first_key p)) r.1.0 ∙ itself key)
     (sym (any-below goes_below key es) ∙ on)
 
-both : (key : List ℕ) (es : List Placed) → (list_any (same_key key) (keys_in es) && goes_on (below key es)) ≡ goes_on (below key es)
-both key es = elim (goes_on (below key es)) as (λ b. goes_on (below key es) ≡ b → (list_any (same_key key) (keys_in es) && b) ≡ b) [
+both : (key : List ℕ) (es : List Placed) → (list_any (same_key key) (keys_below es) && goes_deeper (below key es)) ≡ goes_deeper (below key es)
+both key es = elim (goes_deeper (below key es)) as (λ b. goes_deeper (below key es) ≡ b → (list_any (same_key key) (keys_below es) && b) ≡ b) [
   | true ↦ λ on. ap (λ b. b && true) (key_stands key es on)
-  | false ↦ λ _. and-false (list_any (same_key key) (keys_in es))
+  | false ↦ λ _. and-false (list_any (same_key key) (keys_below es))
 ] refl
 
 below_some : (rest : List (List ℕ)) → is_below rest ≡ true → (x : List ℕ) × ((more : List (List ℕ)) × (rest ≡ x ∷ more))
@@ -107,10 +107,10 @@ no_children es h =
 shown_more : (n : ℕ) (counters : Option (List (List ℕ × ℤ))) (es : List Placed) → fit n es ≡ true → shown_to n counters es ≡ shown_to (suc n) counters es
 shown_more zero counters es h = sym (ap (λ cs. shows (maps_of (child_maps zero cs)) (values_by_key Reg cs) (values_by_key Elem cs) counters) (no_children es h))
 shown_more (suc n) counters es h =
-    let as_map : (m : ℕ) → child_maps m (children es) ≡ filter_map (λ k. if goes_on (below k es) then Some (k, shown_to m None (below k es)) else None) (keys_in es) =
-    λ m. filter_map-map (λ c. if goes_on c.1 then Some (c.0, shown_to m None c.1) else None) (λ k. (k, below k es)) (keys_in es) in
+    let as_map : (m : ℕ) → child_maps m (children es) ≡ filter_map (λ k. if goes_deeper (below k es) then Some (k, shown_to m None (below k es)) else None) (keys_below es) =
+    λ m. filter_map-map (λ c. if goes_deeper c.1 then Some (c.0, shown_to m None c.1) else None) (λ k. (k, below k es)) (keys_below es) in
     let maps : child_maps n (children es) ≡ child_maps (suc n) (children es) =
-    as_map n ∙ (λ i. filter_map (λ k. if goes_on (below k es) then Some (k, shown_more n None (below k es) (fit_below n k es h) i) else None) (keys_in es)) ∙ sym (as_map (suc n)) in
+    as_map n ∙ (λ i. filter_map (λ k. if goes_deeper (below k es) then Some (k, shown_more n None (below k es) (fit_below n k es h) i) else None) (keys_below es)) ∙ sym (as_map (suc n)) in
     ap (λ ms. shows (maps_of ms) (values_by_key Reg (children es)) (values_by_key Elem (children es)) counters) maps
 
 short_path : (e : Entry) → leb (length e.path) 8 ≡ true
@@ -126,7 +126,7 @@ pub below_path-end : (path : List (List ℕ)) (key : List ℕ) (es : List Placed
 below_path-end [] key es = refl
 below_path-end (k ∷ path) key es = below_path-end path key (below k es)
 
-no_counters : (path : List (List ℕ)) (key : List ℕ) (sums : List (List ℕ × ℤ)) → counters_at (path ++ key ∷ []) sums ≡ None
+no_counters : (path : List (List ℕ)) (key : List ℕ) (sums : List (List ℕ × ℤ)) → counters_shown (path ++ key ∷ []) sums ≡ None
 no_counters [] key sums = refl
 no_counters (k ∷ path) key sums = refl
 
@@ -149,22 +149,22 @@ module _ (v : StateValue) (path : List (List ℕ)) (key : List ℕ) where
       ap (λ counters. shown_to 8 counters (below_path (path ++ key ∷ []) all)) (no_counters path key (sums_of v.counts)) ∙ ap (shown_to 8 None) (below_path-end path key all)
       ∙ sym (shown_more 7 None (below key seen) (fit_below 7 key seen (fit-below_path 8 path all (all_short (live_rows v.lives)))))
 
-  map_is : map_at (maps_in (view_of (document v) path)) key ≡ cond (goes_on (below key seen)) (Some inner) None
+  map_is : map_at (maps_in (view_of (document v) path)) key ≡ cond (goes_deeper (below key seen)) (Some inner) None
   unfolding entries_view
   map_is =
-      map_at-of (shown_to 7 None) (λ k. below k seen) key (keys_in seen) ∙ ap (λ b. cond b (Some (shown_to 7 None (below key seen))) None) (both key seen)
-      ∙ ap (λ s. cond (goes_on (below key seen)) (Some s) None) (sym inner_is)
+      map_at-of (shown_to 7 None) (λ k. below k seen) key (keys_below seen) ∙ ap (λ b. cond b (Some (shown_to 7 None (below key seen))) None) (both key seen)
+      ∙ ap (λ s. cond (goes_deeper (below key seen)) (Some s) None) (sym inner_is)
 
   abbrev t : Placed → Bool
   t = reaches (reaches goes_below (key ∷ [])) path
 
-  live_below : (goes_on (below key seen) ≡ true) ↔ IsLiveBelow v (path ++ key ∷ [])
+  live_below : (goes_deeper (below key seen) ≡ true) ↔ IsLiveBelow v (path ++ key ∷ [])
   live_below = (to, from)
     where
-      told : goes_on (below key seen) ≡ list_any t all
+      told : goes_deeper (below key seen) ≡ list_any t all
       told = any-below goes_below key seen ∙ any-below_path (reaches goes_below (key ∷ [])) path all
 
-      to : goes_on (below key seen) ≡ true → IsLiveBelow v (path ++ key ∷ [])
+      to : goes_deeper (below key seen) ≡ true → IsLiveBelow v (path ++ key ∷ [])
       to h =
           let s = some_shows t v (sym told ∙ h) in
           let r = reached (reaches goes_below (key ∷ [])) path s.0.kind s.0.value s.0.path s.1.1 in
@@ -172,7 +172,7 @@ module _ (v : StateValue) (path : List (List ℕ)) (key : List ℕ) where
           let x = below_some q.0 q.1.1 in
           (s.0, (s.1.0, (x.0, (x.1.0, r.1.0 ∙ ap (λ ks. path ++ ks) (q.1.0 ∙ ap (λ ks. key ∷ ks) x.1.1) ∙ sym (append_assoc path (key ∷ []) (x.0 ∷ x.1.0))))))
 
-      from : IsLiveBelow v (path ++ key ∷ []) → goes_on (below key seen) ≡ true
+      from : IsLiveBelow v (path ++ key ∷ []) → goes_deeper (below key seen) ≡ true
       from s =
           let e = s.0 in
           let x = s.1.1.0 in
@@ -190,7 +190,7 @@ module _ (v : StateValue) (path : List (List ℕ)) (key : List ℕ) where
   maps_shown shown = (to, from)
     where
       to : map_at (maps_in (view_of (document v) path)) key ≡ Some shown → IsLiveBelow v (path ++ key ∷ []) × (shown ≡ inner)
-      to h = elim (goes_on (below key seen)) as (λ b. goes_on (below key seen) ≡ b → cond b (Some inner) None ≡ Some shown → IsLiveBelow v (path ++ key ∷ []) × (shown ≡ inner)) [
+      to h = elim (goes_deeper (below key seen)) as (λ b. goes_deeper (below key seen) ≡ b → cond b (Some inner) None ≡ Some shown → IsLiveBelow v (path ++ key ∷ []) × (shown ≡ inner)) [
         | true ↦ λ on g. (live_below.0 on, sym (same_some inner shown g))
         | false ↦ λ _ g. absurd (cc)
       ] refl (sym map_is ∙ h)

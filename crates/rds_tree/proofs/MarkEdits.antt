@@ -39,7 +39,7 @@ use Rattle.rds_state.specs.Value.{StateValue, coordinates, size}
 use Rattle.rds_state.proofs.CountLemmas.{same_dot-tied}
 use Rattle.rds_state.proofs.JoinLaws.{same_value}
 use Rattle.rds_state.proofs.Nothing.{joins_nothing}
-use Rattle.rds_tree.specs.Cuts.{covered_leaf, found_at, is_deep, path_in}
+use Rattle.rds_tree.specs.Cuts.{covered_leaf, found_at, is_deep, path_covered}
 use Rattle.rds_tree.specs.Growing.{Holds}
 use Rattle.rds_tree.specs.Held.{IsGathered}
 use Rattle.rds_tree.specs.Marks.{coming, going, mark_at, mark_in, marks_at, marks_in, marks_of, HasRows, IsMoved}
@@ -140,7 +140,7 @@ kept_is t (Some f) e h = by (t f) refl h
     by false is g = absurd (none_is e g)
 
 -- dots that a tree lists are those that the command covers, each once, where they are as many
-pub covered_marks : (c : Command) (path : List (List ℕ)) (v : Lived) (tree : List Row) (dots : List Dot) → path ≡ path_in c → Holds (live_rows v) tree → IsGathered (found_at (covered_leaf c) (is_deep c) path tree) [] dots
+pub covered_marks : (c : Command) (path : List (List ℕ)) (v : Lived) (tree : List Row) (dots : List Dot) → path ≡ path_covered c → Holds (live_rows v) tree → IsGathered (found_at (covered_leaf c) (is_deep c) path tree) [] dots
     → length dots ≡ count_by (λ (r : Dot × Entry). covers c r.1) (live_rows v) → marks_at v dots ≡ marks_of (filter (λ r. covers c r.1) (live_rows v))
 covered_marks c path v tree dots at holds gathered many =
     let covered : Dot × Entry → Bool = λ r. covers c r.1 in

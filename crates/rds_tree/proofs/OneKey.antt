@@ -18,7 +18,7 @@ use Rattle.rds_tree.specs.Gathered.{child_maps, map_under, view_under}
 use Rattle.rds_tree.specs.Once.{once_is}
 use Rattle.rds_tree.specs.Parts.{only_key, only_maps, only_rows}
 use Rattle.rds_tree.specs.Shown.{Shown, a_map, maps_of, no_maps, shows}
-use Rattle.rds_tree.specs.View.{below, below_path, children, entries_view, first_key, goes_on, is_below, keys_in}
+use Rattle.rds_tree.specs.View.{below, below_path, children, entries_view, first_key, goes_deeper, is_below, keys_below}
 use Rattle.rds_tree.specs.View.{same_key, shown_to, step_into, values_by_key, values_here, with_key}
 use Rattle.rds_tree.proofs.Kids.{flip_eq}
 use Rattle.rds_tree.proofs.MapsShown.{below_path-end}
@@ -94,9 +94,9 @@ module _ {X : Type 0} (t : List ℕ × List Placed → Option (List ℕ × X)) (
   only_child : (key : List ℕ) (es : List Placed) → only_rows key (filter_map t (children es)) ≡ option_to_list (t (key, below key es))
   only_child key es =
       let heads = filter_map (λ e. first_key e.path) es in
-      let stands = list_any (same_key key) (keys_in es) in
-      ap (only_rows key) (filter_map-map t (λ k. (k, below k es)) (keys_in es))
-      ∙ only_told key (λ k. t (k, below k es)) (keys_in es) (own_key key es) (once_rises key_cmp heads)
+      let stands = list_any (same_key key) (keys_below es) in
+      ap (only_rows key) (filter_map-map t (λ k. (k, below k es)) (keys_below es))
+      ∙ only_told key (λ k. t (k, below k es)) (keys_below es) (own_key key es) (once_rises key_cmp heads)
       ∙ elim stands as (λ b. stands ≡ b → cond b (option_to_list (t (key, below key es))) [] ≡ option_to_list (t (key, below key es))) [
         | true ↦ λ _. refl
         | false ↦ λ no. sym (ap (λ ds. option_to_list (t (key, ds))) (none_below key es (sym (any-once nat_list_cmp_total (slice_cmp-IsAntisymmetric nat_cmp-IsAntisymmetric) (same_key key) heads) ∙ no)) ∙ ap option_to_list (nothing key))
@@ -123,8 +123,8 @@ no_values kind = once_is scalars_total scalars_exact [] [] tt (λ q. refl)
 only_values : (kind : Kind) (key : List ℕ) (es : List Placed) → only_rows key (values_by_key kind (children es)) ≡ option_to_list (with_key key (values_here kind (below key es)))
 only_values kind = only_child (λ c. with_key c.0 (values_here kind c.1)) (λ key k es. own_values key k (values_here kind es)) (λ k. ap (with_key k) (no_values kind))
 
-only_map : (n : ℕ) (key : List ℕ) (es : List Placed) → only_rows key (child_maps n (children es)) ≡ option_to_list (if goes_on (below key es) then Some (key, shown_to n None (below key es)) else None)
-only_map n = only_child (λ c. if goes_on c.1 then Some (c.0, shown_to n None c.1) else None) (λ key k es. own_map key k (shown_to n None es) (goes_on es)) (λ k. refl)
+only_map : (n : ℕ) (key : List ℕ) (es : List Placed) → only_rows key (child_maps n (children es)) ≡ option_to_list (if goes_deeper (below key es) then Some (key, shown_to n None (below key es)) else None)
+only_map n = only_child (λ c. if goes_deeper c.1 then Some (c.0, shown_to n None c.1) else None) (λ key k es. own_map key k (shown_to n None es) (goes_deeper es)) (λ k. refl)
 
 one_map : (key : List ℕ) (shown : Shown) (b : Bool) → maps_of (option_to_list (cond b (Some (key, shown)) None)) ≡ cond b (a_map key shown no_maps) no_maps
 one_map key shown true = refl
@@ -133,7 +133,7 @@ one_map key shown false = refl
 only_shown : (key : List ℕ) (counters : Option (List (List ℕ × ℤ))) (es : List Placed) → only_key key (shown_to 8 counters es) ≡ view_under key (option_map (only_rows key) counters) (below key es)
 unfolding map_under
 only_shown key counters es =
-    let maps = only_maps-of key (child_maps 7 (children es)) ∙ ap maps_of (only_map 7 key es) ∙ one_map key (shown_to 7 None (below key es)) (goes_on (below key es)) in
+    let maps = only_maps-of key (child_maps 7 (children es)) ∙ ap maps_of (only_map 7 key es) ∙ one_map key (shown_to 7 None (below key es)) (goes_deeper (below key es)) in
     let regs = only_values Reg key es in
     let sets = only_values Elem key es in
     λ i. shows (maps i) (regs i) (sets i) (option_map (only_rows key) counters)
@@ -151,7 +151,7 @@ under_nothing key counters = λ i. shows no_maps (option_to_list (with_key key (
 pub same_under : (key : List ℕ) (counters : Option (List (List ℕ × ℤ))) (es fs : List Placed) → SameMembers es fs → view_under key counters es ≡ view_under key counters fs
 unfolding map_under
 same_under key counters es fs same =
-    let on : goes_on es ≡ goes_on fs = same.any (λ e. is_below e.path) in
+    let on : goes_deeper es ≡ goes_deeper fs = same.any (λ e. is_below e.path) in
     λ i. shows (cond (on i) (a_map key (same_view 7 None es fs same i) no_maps) no_maps) (option_to_list (with_key key (same_values Reg es fs same i))) (option_to_list (with_key key (same_values Elem es fs same i))) counters
 
 -- ---- the counter

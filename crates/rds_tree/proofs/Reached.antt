@@ -12,7 +12,7 @@ use Rattle.rds_tree.specs.Document.{Placed}
 use Rattle.rds_names.specs.Orders.{scalar_cmp}
 use Rattle.rds_names.proofs.Orders.{scalars_exact}
 use Rattle.rds_tree.proofs.ScalarOrder.{scalars_total}
-use Rattle.rds_tree.specs.View.{below, below_path, is_kind, same_key, step_into, value_here}
+use Rattle.rds_tree.specs.View.{below, below_path, is_that_kind, same_key, step_into, value_here}
 use Rattle.rds_names.specs.Conditions.{equal_of}
 use Rattle.rds_tree.proofs.Kids.{itself}
 use Rattle.rds_tree.proofs.SameView.{passes, any-filter_map}
@@ -63,20 +63,20 @@ is_here kind value e = passes (eq_by_cmp scalar_cmp value) (value_here kind e.ki
 abbrev no_keys : List (List ℕ)
 no_keys = []
 
-same_kind : (a b : Kind) → is_kind a b ≡ true → b ≡ a
+same_kind : (a b : Kind) → is_that_kind a b ≡ true → b ≡ a
 same_kind Reg Reg h = refl
 same_kind Elem Elem h = refl
 same_kind Reg Elem h = absurd (cc)
 same_kind Elem Reg h = absurd (cc)
 
-kind_itself : (a : Kind) → is_kind a a ≡ true
+kind_itself : (a : Kind) → is_that_kind a a ≡ true
 kind_itself Reg = refl
 kind_itself Elem = refl
 
 pub here_is : (kind : Kind) (value : Scalar) (k : Kind) (v : Scalar) (path : List (List ℕ)) → is_here kind value (placed_at path k v) ≡ true → (path ≡ []) × ((k ≡ kind) × (v ≡ value))
 here_is kind value k v (x ∷ path) h = absurd (cc)
 here_is kind value k v [] h =
-    elim (is_kind kind k) as (λ b. is_kind kind k ≡ b → passes (eq_by_cmp scalar_cmp value) (cond b (Some v) None) ≡ true → (no_keys ≡ []) × ((k ≡ kind) × (v ≡ value))) [
+    elim (is_that_kind kind k) as (λ b. is_that_kind kind k ≡ b → passes (eq_by_cmp scalar_cmp value) (cond b (Some v) None) ≡ true → (no_keys ≡ []) × ((k ≡ kind) × (v ≡ value))) [
       | true ↦ λ is g. (refl, (same_kind kind k is, sym (scalars_exact value v (equal_of _ g))))
       | false ↦ λ _ g. absurd (cc)
     ] refl h

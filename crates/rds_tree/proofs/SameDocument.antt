@@ -19,7 +19,7 @@ use Rattle.rds_state.specs.Value.{StateValue, coordinates}
 use Rattle.rds_tree.specs.Once.{once_same}
 use Rattle.rds_tree.specs.Document.{Placed, entry_placed, entries_in, key_cmp, counted_keys, sums_of, document}
 use Rattle.rds_tree.specs.SameDocument.{AreSameDocument}
-use Rattle.rds_tree.specs.View.{counters_at, entries_view, view_of}
+use Rattle.rds_tree.specs.View.{counters_shown, entries_view, view_of}
 use Rattle.rds_tree.proofs.SameView.{SameMembers, same_below_path, same_entries_view, any-filter_map, passes}
 use Rattle.rds_tree.proofs.Witness.{both_ways, entry_passes, passes_entry}
 
@@ -110,5 +110,5 @@ same_sums v w same = (λ i. each (λ k. (k, (sym (value_is v k) ∙ same.sums k 
 
 pub same_documents : (v w : StateValue) → AreSameDocument v w → (path : List (List ℕ)) → view_of (document v) path ≡ view_of (document w) path
 same_documents v w same path =
-    ap (λ sums. entries_view (counters_at path sums) path (entries_in (live_rows v.lives))) (same_sums v w same)
-    ∙ same_entries_view (counters_at path (sums_of w.counts)) path _ _ (same_below_path path _ _ (same_live v w same))
+    ap (λ sums. entries_view (counters_shown path sums) path (entries_in (live_rows v.lives))) (same_sums v w same)
+    ∙ same_entries_view (counters_shown path (sums_of w.counts)) path _ _ (same_below_path path _ _ (same_live v w same))

@@ -12,8 +12,8 @@ use Rattle.rds_names.specs.Orders.{scalar_cmp}
 use Rattle.rds_names.proofs.Orders.{scalars_exact}
 use Rattle.rds_tree.proofs.ScalarOrder.{scalars_total}
 use Rattle.rds_tree.specs.Document.{Placed, key_cmp}
-use Rattle.rds_tree.specs.View.{keys_in, first_key, step_into, below, below_path, children, value_here, values_here}
-use Rattle.rds_tree.specs.View.{with_key, values_by_key, goes_on, is_below, shown_to, entries_view}
+use Rattle.rds_tree.specs.View.{keys_below, first_key, step_into, below, below_path, children, value_here, values_here}
+use Rattle.rds_tree.specs.View.{with_key, values_by_key, goes_deeper, is_below, shown_to, entries_view}
 use Rattle.rds_tree.specs.Gathered.{child_maps}
 use Rattle.rds_tree.specs.Shown.{shows, maps_of}
 
@@ -44,7 +44,7 @@ pub same_below_path : (path : List (List ℕ)) (es fs : List Placed) → SameMem
 same_below_path [] es fs same = same
 same_below_path (k ∷ path) es fs same = same_below_path path (below k es) (below k fs) (same_below k es fs same)
 
-same_keys : (es fs : List Placed) → SameMembers es fs → keys_in es ≡ keys_in fs
+same_keys : (es fs : List Placed) → SameMembers es fs → keys_below es ≡ keys_below fs
 same_keys es fs same = once_same nat_list_cmp_total (slice_cmp-IsAntisymmetric nat_cmp-IsAntisymmetric) _ _ (λ q. same_picked (λ e. first_key e.path) es fs same (eq_by_cmp key_cmp q))
 
 pub same_values : (kind : Kind) (es fs : List Placed) → SameMembers es fs → values_here kind es ≡ values_here kind fs
@@ -57,8 +57,8 @@ filter_map-map h g (x ∷ xs) = ap (cons_option (h (g x))) (filter_map-map h g x
 -- what is told of each child is the same
 told : {Y : Type 0} (h : List ℕ × List Placed → Option Y) (es fs : List Placed) → SameMembers es fs → ((k : List ℕ) → h (k, below k es) ≡ h (k, below k fs)) → filter_map h (children es) ≡ filter_map h (children fs)
 told h es fs same each =
-    filter_map-map h (λ k. (k, below k es)) (keys_in es) ∙ ap (filter_map (λ k. h (k, below k es))) (same_keys es fs same)
-    ∙ (λ i. filter_map (λ k. each k i) (keys_in fs)) ∙ sym (filter_map-map h (λ k. (k, below k fs)) (keys_in fs))
+    filter_map-map h (λ k. (k, below k es)) (keys_below es) ∙ ap (filter_map (λ k. h (k, below k es))) (same_keys es fs same)
+    ∙ (λ i. filter_map (λ k. each k i) (keys_below fs)) ∙ sym (filter_map-map h (λ k. (k, below k fs)) (keys_below fs))
 
 pub same_view : (n : ℕ) (counters : Option (List (List ℕ × ℤ))) (es fs : List Placed) → SameMembers es fs → shown_to n counters es ≡ shown_to n counters fs
 same_view zero counters es fs same = refl
@@ -66,7 +66,7 @@ same_view (suc n) counters es fs same =
     let values : (kind : Kind) → values_by_key kind (children es) ≡ values_by_key kind (children fs) =
     λ kind. told (λ c. with_key c.0 (values_here kind c.1)) es fs same (λ k. ap (with_key k) (same_values kind (below k es) (below k fs) (same_below k es fs same))) in
     let maps : child_maps n (children es) ≡ child_maps n (children fs) =
-    told (λ c. if goes_on c.1 then Some (c.0, shown_to n None c.1) else None) es fs same (λ k i. cond ((same_below k es fs same).any (λ e. is_below e.path) i) (Some (k, same_view n None (below k es) (below k fs) (same_below k es fs same) i)) None) in
+    told (λ c. if goes_deeper c.1 then Some (c.0, shown_to n None c.1) else None) es fs same (λ k i. cond ((same_below k es fs same).any (λ e. is_below e.path) i) (Some (k, same_view n None (below k es) (below k fs) (same_below k es fs same) i)) None) in
     λ i. shows (maps_of (maps i)) (values Reg i) (values Elem i) counters
 
 pub same_entries_view : (counters : Option (List (List ℕ × ℤ))) (path : List (List ℕ)) (es fs : List Placed) → SameMembers (below_path path es) (below_path path fs) → entries_view counters path es ≡ entries_view counters path fs

@@ -19,8 +19,8 @@ use Rattle.rds_tree.specs.Document.{Placed, entries_in, keys_once, counted_keys,
 use Rattle.rds_names.specs.Orders.{scalar_cmp}
 use Rattle.rds_names.proofs.Orders.{scalars_exact}
 use Rattle.rds_tree.proofs.ScalarOrder.{scalars_total}
-use Rattle.rds_tree.specs.Shows.{IsLiveAt, has_value, regs_in, sets_in, sum_at}
-use Rattle.rds_tree.specs.View.{below, below_path, children, entries_view, first_key, keys_in, same_key, value_here}
+use Rattle.rds_tree.specs.Shows.{IsLiveAt, shows_value, regs_in, sets_in, sum_at}
+use Rattle.rds_tree.specs.View.{below, below_path, children, entries_view, first_key, keys_below, same_key, value_here}
 use Rattle.rds_tree.specs.View.{values_by_key, values_here, view_of, with_key}
 use Rattle.rds_tree.proofs.Kids.{itself}
 use Rattle.rds_tree.proofs.Members.{any-once, any_wider, some_passes}
@@ -70,11 +70,11 @@ module _ (kind : Kind) (key : List ℕ) (value : Scalar) (es : List Placed) wher
       let r = reached (is_here kind value) (key ∷ []) e.kind e.value e.path under in
       ap (λ p. passes at_one (first_key p)) r.1.0 ∙ and_true (same_key key key) _ (itself key) all
 
-  any-rows : has_value (values_by_key kind (children es)) key value ≡ list_any (is_under kind key value) es
+  any-rows : shows_value (values_by_key kind (children es)) key value ≡ list_any (is_under kind key value) es
   any-rows =
       any-filter_map (row_test key value) (λ c. with_key c.0 (values_here kind c.1)) (children es)
-      ∙ any-map (λ c. passes (row_test key value) (with_key c.0 (values_here kind c.1))) (λ k. (k, below k es)) (keys_in es)
-      ∙ (λ i. list_any (λ k. (passes-with_key key value k (values_here kind (below k es)) ∙ ap (λ b. same_key key k && b) (any-values kind k value es)) i) (keys_in es))
+      ∙ any-map (λ c. passes (row_test key value) (with_key c.0 (values_here kind c.1))) (λ k. (k, below k es)) (keys_below es)
+      ∙ (λ i. list_any (λ k. (passes-with_key key value k (values_here kind (below k es)) ∙ ap (λ b. same_key key k && b) (any-values kind k value es)) i) (keys_below es))
       ∙ any_key-once at_one (filter_map (λ e. first_key e.path) es)
       ∙ any-filter_map at_one (λ e. first_key e.path) es
       ∙ both_ways _ _
@@ -111,11 +111,11 @@ module _ (v : StateValue) (path : List (List ℕ)) (key : List ℕ) where
             ),
           )
 
-  pub regs_shown : (value : Scalar) → (has_value (regs_in (view_of (document v) path)) key value ≡ true) ↔ IsLiveAt v (path ++ key ∷ []) Reg value
+  pub regs_shown : (value : Scalar) → (shows_value (regs_in (view_of (document v) path)) key value ≡ true) ↔ IsLiveAt v (path ++ key ∷ []) Reg value
   unfolding entries_view
   regs_shown value = let l = live_value Reg value in (λ h. l.0 (sym (any-rows Reg key value seen) ∙ h), λ is. any-rows Reg key value seen ∙ l.1 is)
 
-  pub sets_shown : (value : Scalar) → (has_value (sets_in (view_of (document v) path)) key value ≡ true) ↔ IsLiveAt v (path ++ key ∷ []) Elem value
+  pub sets_shown : (value : Scalar) → (shows_value (sets_in (view_of (document v) path)) key value ≡ true) ↔ IsLiveAt v (path ++ key ∷ []) Elem value
   unfolding entries_view
   sets_shown value = let l = live_value Elem value in (λ h. l.0 (sym (any-rows Elem key value seen) ∙ h), λ is. any-rows Elem key value seen ∙ l.1 is)
 

@@ -17,7 +17,7 @@ use Rattle.rds_tree.specs.Cuts.{among_leaves}
 use Rattle.rds_tree.specs.Gathered.{values_in}
 use Rattle.rds_tree.specs.Once.{once_same}
 use Rattle.rds_tree.specs.Row.{AddsLeaf}
-use Rattle.rds_tree.specs.View.{is_kind, values_once}
+use Rattle.rds_tree.specs.View.{is_that_kind, values_once}
 use Rattle.rds_tree.proofs.SameView.{any-filter_map, passes}
 use Rattle.rds_tree.proofs.ScalarOrder.{scalars_total}
 
@@ -30,7 +30,7 @@ pub two_dots : (leaves : List Leaf) (l m : Leaf) → l ∷ m ∷ [] ≡ leaves �
 two_dots leaves l m is d e = ap (λ ls. among_leaves (λ x. true) ls d e) (sym is) ∙ ap (λ b. is_the l.dot d e || b) (or-false (is_the m.dot d e))
 
 abbrev picked : Kind → Leaf → Option Scalar
-picked kind l = if is_kind kind l.kind then Some l.value else None
+picked kind l = if is_that_kind kind l.kind then Some l.value else None
 
 -- leaves with the same members have the same values
 same_leaves : (kind : Kind) (xs ys : List Leaf) → ((t : Leaf → Bool) → list_any t xs ≡ list_any t ys) → values_once (values_in kind xs) ≡ values_once (values_in kind ys)

@@ -10,9 +10,9 @@ use Rattle.rds_names.specs.declared.scalar.Scalar.{Scalar}
 use Rattle.rds_names.specs.declared.entry.Kind.TheVariants.{Reg, Elem}
 use Rattle.rds_tree.specs.declared.leaf.Leaf.{Leaf}
 use Rattle.rds_tree.specs.Document.{key_cmp}
-use Rattle.rds_tree.specs.View.{values_by_key, values_here, with_key, goes_on, shown_to, children}
+use Rattle.rds_tree.specs.View.{values_by_key, values_here, with_key, goes_deeper, shown_to, children}
 use Rattle.rds_tree.specs.Gathered.{child_maps}
-use Rattle.rds_tree.specs.Row.{Row, rows_of, are_full, placed_all, placed_below}
+use Rattle.rds_tree.specs.Row.{Row, rows_in_node, are_full, placed_all, placed_below}
 use Rattle.rds_tree.specs.Shown.{Shown, ShownMaps, maps_step, view_step, shows, maps_of, shown_view}
 use Rattle.rds_tree.specs.Shown.{maps_shown, views_shown}
 use Rattle.rds_tree.specs.declared.views.Maps.{Maps}
@@ -28,7 +28,7 @@ pub record IsWalked (n : ℕ) (all left : List (List ℕ × List Row)) (regs set
   pub of_maps : maps ++ child_maps n (placed_below left) ≡ child_maps n (placed_below all)
 
 abbrev pub child_map : ℕ → List ℕ × List Row → Option (List ℕ × Shown)
-child_map n c = if goes_on (placed_all c.1) then Some (c.0, shown_to n None (placed_all c.1)) else None
+child_map n c = if goes_deeper (placed_all c.1) then Some (c.0, shown_to n None (placed_all c.1)) else None
 
 pushed : {X : Type 0} (xs : List X) (o : Option X) (ys : List X) → (xs ++ option_to_list o) ++ ys ≡ xs ++ cons_option o ys
 pushed xs None ys = ap (λ zs. zs ++ ys) (append-nil xs)
@@ -52,25 +52,25 @@ suc_le a n = grind (arith, nat_tests)
 
 -- at the end the walk has the view
 pub walked_whole : (n depth : ℕ) (counters : Option (List (List ℕ × ℤ))) (leaves : List Leaf) (cs : List (List ℕ × List Row)) (regs sets : List (List ℕ × List Scalar)) (maps : List (List ℕ × Shown)) → depth ≡ suc n → are_full cs ≡ true → IsStrictlySortedBy key_cmp (map (λ c. c.0) cs) → IsWalked n cs [] regs sets maps
-    → shows (maps_of maps) regs sets counters ≡ shown_to depth counters (placed_all (rows_of leaves cs))
+    → shows (maps_of maps) regs sets counters ≡ shown_to depth counters (placed_all (rows_in_node leaves cs))
 walked_whole n depth counters leaves cs regs sets maps deep full rise w =
     let kids = children-rows leaves cs full rise in
-    let r : regs ≡ values_by_key Reg (children (placed_all (rows_of leaves cs))) = sym (append-nil regs) ∙ w.of_regs ∙ ap (values_by_key Reg) (sym kids) in
-    let s : sets ≡ values_by_key Elem (children (placed_all (rows_of leaves cs))) = sym (append-nil sets) ∙ w.of_sets ∙ ap (values_by_key Elem) (sym kids) in
-    let m : maps ≡ child_maps n (children (placed_all (rows_of leaves cs))) = sym (append-nil maps) ∙ w.of_maps ∙ ap (child_maps n) (sym kids) in
-    ap (λ ms. shows (maps_of ms) regs sets counters) m ∙ ap (λ rs. shows (maps_of (child_maps n (children (placed_all (rows_of leaves cs))))) rs sets counters) r
-    ∙ ap (λ ss. shows (maps_of (child_maps n (children (placed_all (rows_of leaves cs))))) (values_by_key Reg (children (placed_all (rows_of leaves cs)))) ss counters) s
-    ∙ ap (λ d. shown_to d counters (placed_all (rows_of leaves cs))) (sym deep)
+    let r : regs ≡ values_by_key Reg (children (placed_all (rows_in_node leaves cs))) = sym (append-nil regs) ∙ w.of_regs ∙ ap (values_by_key Reg) (sym kids) in
+    let s : sets ≡ values_by_key Elem (children (placed_all (rows_in_node leaves cs))) = sym (append-nil sets) ∙ w.of_sets ∙ ap (values_by_key Elem) (sym kids) in
+    let m : maps ≡ child_maps n (children (placed_all (rows_in_node leaves cs))) = sym (append-nil maps) ∙ w.of_maps ∙ ap (child_maps n) (sym kids) in
+    ap (λ ms. shows (maps_of ms) regs sets counters) m ∙ ap (λ rs. shows (maps_of (child_maps n (children (placed_all (rows_in_node leaves cs))))) rs sets counters) r
+    ∙ ap (λ ss. shows (maps_of (child_maps n (children (placed_all (rows_in_node leaves cs))))) (values_by_key Reg (children (placed_all (rows_in_node leaves cs)))) ss counters) s
+    ∙ ap (λ d. shown_to d counters (placed_all (rows_in_node leaves cs))) (sym deep)
 
 pub views_push : (xs : List (List ℕ × View)) (k : List ℕ) (v : View) → views_shown (xs ++ (k, v) ∷ []) ≡ views_shown xs ++ (k, shown_view v) ∷ []
 views_push [] k v = refl
 views_push (x ∷ xs) k v = ap (λ ys. (x.0, shown_view x.1) ∷ ys) (views_push xs k v)
 
 -- the maps after a child below which something stands, and below which nothing does
-pub with_map : (k : List ℕ) (rows : List Row) (maps : List (List ℕ × Shown)) (shows_it : Shown) → goes_on (placed_all rows) ≡ true → (n : ℕ) → shows_it ≡ shown_to n None (placed_all rows) → maps ++ (k, shows_it) ∷ [] ≡ maps ++ option_to_list (child_map n (k, rows))
+pub with_map : (k : List ℕ) (rows : List Row) (maps : List (List ℕ × Shown)) (shows_it : Shown) → goes_deeper (placed_all rows) ≡ true → (n : ℕ) → shows_it ≡ shown_to n None (placed_all rows) → maps ++ (k, shows_it) ∷ [] ≡ maps ++ option_to_list (child_map n (k, rows))
 with_map k rows maps shows_it on n is = rw on (ap (λ v. maps ++ (k, v) ∷ []) is)
 
-pub without_map : (k : List ℕ) (rows : List Row) (maps : List (List ℕ × Shown)) → goes_on (placed_all rows) ≡ false → (n : ℕ) → maps ≡ maps ++ option_to_list (child_map n (k, rows))
+pub without_map : (k : List ℕ) (rows : List Row) (maps : List (List ℕ × Shown)) → goes_deeper (placed_all rows) ≡ false → (n : ℕ) → maps ≡ maps ++ option_to_list (child_map n (k, rows))
 without_map k rows maps off n = rw off (sym (append-nil maps))
 
 pub walked_to : (n : ℕ) (all left cs : List (List ℕ × List Row)) (regs sets : List (List ℕ × List Scalar)) (maps : List (List ℕ × Shown)) → IsWalked n all left regs sets maps → all ≡ cs → left ≡ [] → IsWalked n cs [] regs sets maps

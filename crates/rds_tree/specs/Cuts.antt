@@ -15,7 +15,7 @@ use Rattle.rds_tree.specs.declared.leaf.Leaf.{Leaf}
 use Rattle.rds_tree.specs.Document.{key_cmp}
 use Rattle.rds_tree.specs.Held.{at_value}
 use Rattle.rds_tree.specs.Row.{Row}
-use Rattle.rds_tree.specs.View.{is_kind}
+use Rattle.rds_tree.specs.View.{is_that_kind}
 
 -- whether the command covers a leaf at the end of its path
 abbrev pub covered_leaf : Command → Leaf → Bool
@@ -33,7 +33,7 @@ covering c (Some stays) l = not (is_same stays l.dot) && covered_leaf c l
 
 -- whether it is the leaf of a kind, a value and a dot
 abbrev pub is_leaf : Kind → Scalar → Dot → Leaf → Bool
-is_leaf kind value dot l = is_kind kind l.kind && (at_value value l.value && is_same dot l.dot)
+is_leaf kind value dot l = is_that_kind kind l.kind && (at_value value l.value && is_same dot l.dot)
 
 -- the new leaves are the old ones that aren't picked
 pub record IsLess (picks : Leaf → Bool) (old new : List Leaf) : Type 0 where
@@ -49,13 +49,13 @@ is_deep (Inc k by) = false
 is_deep (Dec k by) = false
 
 -- the path of the entries that it covers, or of what they stand below
-abbrev pub path_in : Command → List (List ℕ)
-path_in (Set p v) = p
-path_in (Add p v) = p
-path_in (Del p v) = p
-path_in (Clear p) = p
-path_in (Inc k by) = []
-path_in (Dec k by) = []
+abbrev pub path_covered : Command → List (List ℕ)
+path_covered (Set p v) = p
+path_covered (Add p v) = p
+path_covered (Del p v) = p
+path_covered (Clear p) = p
+path_covered (Inc k by) = []
+path_covered (Dec k by) = []
 
 -- whether a leaf at the second path is at the first and picked, or is below the first and all there goes
 abbrev pub goes : (Leaf → Bool) → Bool → List (List ℕ) → List (List ℕ) → Leaf → Bool

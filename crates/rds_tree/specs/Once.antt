@@ -30,16 +30,16 @@ module _ {K : Type 0} (R : K → K → Ordering) where
 abbrev pub once : {K : Type 0} (R : K → K → Ordering) → List K → List K
 once R ks = map_of.keys (map_of.from_entries {R = R} (marks ks))
 
-same_mark : (a b : Option (Unit {0})) → is_some a ≡ is_some b → a ≡ b
-same_mark None None h = refl
-same_mark None (Some u) h = absurd (cc)
-same_mark (Some u) None h = absurd (cc)
-same_mark (Some u) (Some v) h = refl
+same_units : (a b : Option (Unit {0})) → is_some a ≡ is_some b → a ≡ b
+same_units None None h = refl
+same_units None (Some u) h = absurd (cc)
+same_units (Some u) None h = absurd (cc)
+same_units (Some u) (Some v) h = refl
 
 module _ {K : Type 0} {R : K → K → Ordering} (total : IsTotalOrder R) (exact : map_of.IsAntisymmetric R) where
   found_as : (ks vs : List K) (q : K) → list_any (eq_by_cmp R q) vs ≡ list_any (eq_by_cmp R q) ks → map_of.find R q (marks vs) ≡ map_of.find R q (marks ks)
   found_as ks vs q same =
-      same_mark _ _ (map_of.Entries.is_some-find R q (marks vs) ∙ ap (list_any (eq_by_cmp R q)) (firsts-marks vs) ∙ same ∙ sym (map_of.Entries.is_some-find R q (marks ks) ∙ ap (list_any (eq_by_cmp R q)) (firsts-marks ks)))
+      same_units _ _ (map_of.Entries.is_some-find R q (marks vs) ∙ ap (list_any (eq_by_cmp R q)) (firsts-marks vs) ∙ same ∙ sym (map_of.Entries.is_some-find R q (marks ks) ∙ ap (list_any (eq_by_cmp R q)) (firsts-marks ks)))
 
   -- a list that strictly rises lists its members once, ascending
   pub once_is : (ks vs : List K) → IsStrictlySortedBy R ks → ((q : K) → list_any (eq_by_cmp R q) vs ≡ list_any (eq_by_cmp R q) ks) → once R vs ≡ ks

@@ -16,22 +16,22 @@ abbrev pub at_end : Leaf → Row
 at_end l = record { path = []; leaf = l }
 
 -- the rows below each key, one key after the other
-abbrev pub rows_below : List (List ℕ × List Row) → List Row
-rows_below [] = []
-rows_below (c ∷ cs) = map (under c.0) c.1 ++ rows_below cs
+abbrev pub rows_in_children : List (List ℕ × List Row) → List Row
+rows_in_children [] = []
+rows_in_children (c ∷ cs) = map (under c.0) c.1 ++ rows_in_children cs
 
 -- those that stand here, and those below
-abbrev pub rows_of : List Leaf → List (List ℕ × List Row) → List Row
-rows_of leaves children = map at_end leaves ++ rows_below children
+abbrev pub rows_in_node : List Leaf → List (List ℕ × List Row) → List Row
+rows_in_node leaves children = map at_end leaves ++ rows_in_children children
 
-abbrev pub is_full : {X : Type 0} → List X → Bool
-is_full [] = false
-is_full (x ∷ xs) = true
+abbrev pub is_filled : {X : Type 0} → List X → Bool
+is_filled [] = false
+is_filled (x ∷ xs) = true
 
 -- no key is without members
 abbrev pub are_full : {K X : Type 0} → List (K × List X) → Bool
 are_full [] = true
-are_full (c ∷ cs) = is_full c.1 && are_full cs
+are_full (c ∷ cs) = is_filled c.1 && are_full cs
 
 -- how long the paths are, taken together
 abbrev pub weight : List Row → ℕ
@@ -49,11 +49,11 @@ placed_all rows = map placement rows
 abbrev pub placed_below : List (List ℕ × List Row) → List (List ℕ × List Placed)
 placed_below cs = map (λ c. (c.0, placed_all c.1)) cs
 
-abbrev pub row_at : List (List ℕ) → Leaf → Row
-row_at path leaf = record { path = path; leaf = leaf }
+abbrev pub leaf_row : List (List ℕ) → Leaf → Row
+leaf_row path leaf = record { path = path; leaf = leaf }
 
 -- the new rows are the old ones and this one
-pub record Adds (old : List Row) (row : Row) (new : List Row) : Type 0 where
+pub record AddsRow (old : List Row) (row : Row) (new : List Row) : Type 0 where
   pub any : (t : Row → Bool) → list_any t new ≡ (t row || list_any t old)
 
 -- the new leaves are the old ones and this one

@@ -28,8 +28,8 @@ abbrev pub counters_in : Shown → Option (List (List ℕ × ℤ))
 counters_in (shows maps regs sets counters) = counters
 
 -- whether the value stands under the key
-abbrev pub has_value : List (List ℕ × List Scalar) → List ℕ → Scalar → Bool
-has_value rows key value = list_any (λ r. same_key key r.0 && list_any (eq_by_cmp scalar_cmp value) r.1) rows
+abbrev pub shows_value : List (List ℕ × List Scalar) → List ℕ → Scalar → Bool
+shows_value rows key value = list_any (λ r. same_key key r.0 && list_any (eq_by_cmp scalar_cmp value) r.1) rows
 
 -- what the maps have under a key
 abbrev pub map_at : ShownMaps → List ℕ → Option Shown

@@ -6,7 +6,7 @@ use Rattle.rds_names.specs.declared.entry.Entry.{Entry}
 use Rattle.rds_dots.specs.declared.dot.Dot.{Dot}
 use Rattle.rds_life.specs.Life.{Life, Lived, is_dead}
 use Rattle.rds_tree.specs.Cuts.{goes, is_leaf}
-use Rattle.rds_tree.specs.Growing.{row_of}
+use Rattle.rds_tree.specs.Growing.{tree_row}
 use Rattle.rds_tree.specs.Row.{Row}
 
 -- whether a dot is unseen
@@ -32,7 +32,7 @@ is_one_of rows row = list_any (λ r. is_row_of r row) rows
 
 -- the new tree has the old one's rows and these
 pub record IsWith (rows : List (Dot × Entry)) (old new : List Row) : Type 0 where
-  pub any : (t : Row → Bool) → list_any t new ≡ (list_any (λ r. t (row_of r)) rows || list_any t old)
+  pub any : (t : Row → Bool) → list_any t new ≡ (list_any (λ r. t (tree_row r)) rows || list_any t old)
 
 -- the new tree has the old one's rows but these
 pub record IsWithout (rows : List (Dot × Entry)) (old new : List Row) : Type 0 where

@@ -19,8 +19,8 @@ first_key [] = None
 first_key (k ∷ ks) = Some k
 
 -- the keys below which something stands
-abbrev pub keys_in : List Placed → List (List ℕ)
-keys_in es = keys_once (filter_map (λ e. first_key e.path) es)
+abbrev pub keys_below : List Placed → List (List ℕ)
+keys_below es = keys_once (filter_map (λ e. first_key e.path) es)
 
 -- whether two keys are one
 abbrev pub same_key : List ℕ → List ℕ → Bool
@@ -42,17 +42,17 @@ below_path (k ∷ ks) es = below_path ks (below k es)
 
 -- the keys, each with what stands at it or below
 abbrev pub children : List Placed → List (List ℕ × List Placed)
-children es = map (λ k. (k, below k es)) (keys_in es)
+children es = map (λ k. (k, below k es)) (keys_below es)
 
-abbrev pub is_kind : Kind → Kind → Bool
-is_kind Reg Reg = true
-is_kind Elem Elem = true
-is_kind Reg Elem = false
-is_kind Elem Reg = false
+abbrev pub is_that_kind : Kind → Kind → Bool
+is_that_kind Reg Reg = true
+is_that_kind Elem Elem = true
+is_that_kind Reg Elem = false
+is_that_kind Elem Reg = false
 
 -- the value of an entry of the kind that stands right here
 abbrev pub value_here : Kind → Kind → Scalar → List (List ℕ) → Option Scalar
-value_here kind k value [] = if is_kind kind k then Some value else None
+value_here kind k value [] = if is_that_kind kind k then Some value else None
 value_here kind k value (x ∷ xs) = None
 
 -- the values of a kind that stand right here
@@ -73,20 +73,20 @@ is_below [] = false
 is_below (k ∷ ks) = true
 
 -- whether something stands further below
-abbrev pub goes_on : List Placed → Bool
-goes_on es = list_any (λ e. is_below e.path) es
+abbrev pub goes_deeper : List Placed → Bool
+goes_deeper es = list_any (λ e. is_below e.path) es
 
 -- what entries show whose paths have at most n keys, beside these counters
 abbrev pub shown_to : ℕ → Option (List (List ℕ × ℤ)) → List Placed → Shown
 shown_to zero counters es = shows no_maps [] [] counters
 shown_to (suc n) counters es =
-    shows (maps_of (filter_map (λ c. if goes_on c.1 then Some (c.0, shown_to n None c.1) else None) (children es)))
+    shows (maps_of (filter_map (λ c. if goes_deeper c.1 then Some (c.0, shown_to n None c.1) else None) (children es)))
     (values_by_key Reg (children es)) (values_by_key Elem (children es)) counters
 
 -- counters stand at the root alone
-abbrev pub counters_at : List (List ℕ) → List (List ℕ × ℤ) → Option (List (List ℕ × ℤ))
-counters_at [] sums = Some sums
-counters_at (k ∷ ks) sums = None
+abbrev pub counters_shown : List (List ℕ) → List (List ℕ × ℤ) → Option (List (List ℕ × ℤ))
+counters_shown [] sums = Some sums
+counters_shown (k ∷ ks) sums = None
 
 -- what entries show at a path, which has at most 8 keys, beside these counters
 unfoldable pub entries_view : Option (List (List ℕ × ℤ)) → List (List ℕ) → List Placed → Shown
@@ -94,4 +94,4 @@ entries_view counters path es = shown_to 8 counters (below_path path es)
 
 -- what a document shows at a path
 abbrev pub view_of : Document → List (List ℕ) → Shown
-view_of doc path = entries_view (counters_at path doc.sums) path doc.entries
+view_of doc path = entries_view (counters_shown path doc.sums) path doc.entries

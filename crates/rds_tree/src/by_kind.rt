@@ -7,7 +7,7 @@ ghost use Rattle.rds_names.specs.declared.fault.Fault.TheVariants.{Memory};
 ghost use Rattle.rds_tree.specs.Cuts.{among_leaves, covered_leaf, covering, is_deep, is_leaf, IsLess};
 ghost use Rattle.rds_tree.specs.Gathered.{values_in};
 ghost use Rattle.rds_tree.specs.Held.{IsGathered};
-ghost use Rattle.rds_tree.specs.Row.{is_full, AddsLeaf};
+ghost use Rattle.rds_tree.specs.Row.{is_filled, AddsLeaf};
 ghost use Rattle.rds_tree.specs.View.{values_once};
 
 use crate::by_value::ByValue;
@@ -79,7 +79,7 @@ impl ByKind {
 
     /// Whether there is no leaf.
     pub fn is_empty(&self) -> bool
-        ensures { result ≡ not (is_full self.now) }
+        ensures { result ≡ not (is_filled self.now) }
     {
         self.regs.is_empty() && self.elems.is_empty()
     }

@@ -11,7 +11,7 @@ ghost use Rattle.rds_names.specs.declared.fault.Fault.TheVariants.{Memory};
 ghost use Rattle.rds_names.specs.declared.scalar.Scalar.{Scalar};
 ghost use Rattle.rds_names.specs.Orders.{scalar_cmp};
 ghost use Rattle.rds_tree.specs.Held.{among_held, any_held, at_value, means, IsGathered};
-ghost use Rattle.rds_tree.specs.Row.{is_full};
+ghost use Rattle.rds_tree.specs.Row.{is_filled};
 
 use crate::dot_list::{DotList, Which};
 use rds_dots::{Dot, DotSet};
@@ -79,7 +79,7 @@ impl ByValue {
 
     /// Whether there is no value.
     pub fn is_empty(&self) -> bool
-        ensures empty { result ≡ not (is_full self.now) }
+        ensures empty { result ≡ not (is_filled self.now) }
         ensures held { are_full self.now ≡ true }
     {
         self.values.is_empty()
@@ -179,7 +179,7 @@ impl ByValue {
 /// Takes out the dots that are meant, and says whether there are others.
 fn keep_others(dots: &mut DotList, which: Which) -> bool
     ensures less { dots.new ≡ filter (λ d. not (means which d)) dots.old }
-    ensures left { result ≡ is_full dots.new }
+    ensures left { result ≡ is_filled dots.new }
 {
     dots.cut(which);
     !dots.is_empty()

@@ -2,7 +2,7 @@
 ghost use Rattle.std.specs.Prelude.{◌≡◌, [], IfOk, IfErr, IfSome, MatchOption, OnErr, OnOk};
 ghost use Rattle.rds_life.specs.Life.{live_rows};
 ghost use Rattle.rds_names.specs.declared.fault.Fault.TheVariants.{Memory};
-ghost use Rattle.rds_tree.specs.Cuts.{covered_leaf, found_at, is_deep, path_in, IsRaise};
+ghost use Rattle.rds_tree.specs.Cuts.{covered_leaf, found_at, is_deep, path_covered, IsRaise};
 ghost use Rattle.rds_tree.specs.Growing.{Holds};
 ghost use Rattle.rds_tree.specs.Held.{is_covered, IsGathered};
 
@@ -20,7 +20,7 @@ pub fn covered<S: DotSet>(
     command: &Command,
     path: &Path,
 ) -> Result<Vec<Dot>, Fault>
-    requires path { path.now ≡ path_in command.now }
+    requires path { path.now ≡ path_covered command.now }
     requires holds { IfSome tree (λ t. Holds (live_rows replica.now.state.lives) t.now) }
     ensures ok { IfOk result (λ dots. IsGathered (is_covered command.now replica.now.state.lives) [] dots.items) }
     ensures memory { IfErr result (λ fault. fault ≡ Memory) }
@@ -54,7 +54,7 @@ pub fn gather_covered<S: DotSet>(
 
 /// The path at which or below which a command covers entries; one that raises a number covers none.
 pub fn path_of(command: &Command) -> Option<&Path>
-    ensures { MatchOption result (IsRaise command.now) (λ path. path.now ≡ path_in command.now) }
+    ensures { MatchOption result (IsRaise command.now) (λ path. path.now ≡ path_covered command.now) }
 {
     match command {
         Command::Set(path, _) => Some(path),

@@ -3,9 +3,9 @@ ghost use Rattle.std.specs.Prelude.{◌≡◌, IfOk, IfErr, OnOk, OnErr};
 ghost use Rattle.rds_names.specs.declared.fault.Fault.TheVariants.{Memory};
 ghost use Rattle.rds_tree.specs.Document.{document, sums_of};
 ghost use Rattle.rds_tree.specs.Growing.{Holds, rows_under};
-ghost use Rattle.rds_tree.specs.Row.{row_at, Adds};
+ghost use Rattle.rds_tree.specs.Row.{leaf_row, AddsRow};
 ghost use Rattle.rds_tree.specs.Shown.{shown_view};
-ghost use Rattle.rds_tree.specs.View.{counters_at, view_of};
+ghost use Rattle.rds_tree.specs.View.{counters_shown, view_of};
 ghost use Rattle.rds_tree.specs.declared.leaf.Leaf.{Leaf};
 
 use crate::counting::sums_of;
@@ -37,7 +37,7 @@ pub fn view<S: DotSet>(alloc: Global, state: &State<S>, path: &Path) -> Result<V
 
 /// What the counters stand at, if the path is the root.
 pub fn counters_at(alloc: Global, counts: &Counts, path: &Path) -> Result<Option<Sums>, Fault>
-    ensures ok { IfOk result (λ counters. counters ≡ counters_at path.now (sums_of counts.now)) }
+    ensures ok { IfOk result (λ counters. counters ≡ counters_shown path.now (sums_of counts.now)) }
     ensures memory { IfErr result (λ fault. fault ≡ Memory) }
 {
     if !path.is_empty() {
@@ -75,7 +75,7 @@ pub fn add_leaf(
 ) -> Result<(), Fault>
     ensures ok { OnOk result
         (let leaf : Leaf = record { kind = kind; value = value.now; dot = dot } in
-        Adds tree.old (row_at path.now leaf) tree.new) }
+        AddsRow tree.old (leaf_row path.now leaf) tree.new) }
     ensures err { OnErr result (tree.new ≡ tree.old) }
     ensures memory { IfErr result (λ fault. fault ≡ Memory) }
 {

@@ -5,7 +5,7 @@ ghost use Rattle.rds_dots.specs.declared.dot.Dot.{Dot};
 ghost use Rattle.rds_life.specs.Killed.{but_for, is_the, killed_by};
 ghost use Rattle.rds_names.specs.declared.fault.Fault.TheVariants.{Memory};
 ghost use Rattle.rds_tree.specs.Held.{among_dots, is_but, means, IsGathered};
-ghost use Rattle.rds_tree.specs.Row.{is_full};
+ghost use Rattle.rds_tree.specs.Row.{is_filled};
 
 use rds_dots::{Dot, DotSet};
 use rds_life::Lives;
@@ -60,7 +60,7 @@ impl DotList {
 
     /// Whether there is no dot.
     pub fn is_empty(&self) -> bool
-        ensures { result ≡ not (is_full self.now) }
+        ensures { result ≡ not (is_filled self.now) }
     {
         self.dots.is_empty()
     }

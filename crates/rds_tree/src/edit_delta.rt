@@ -14,7 +14,7 @@ ghost use Rattle.rds_state.specs.Edit.{count_fault, effect, life_killed, number_
 ghost use Rattle.rds_state.specs.Made.{entry_made};
 ghost use Rattle.rds_state.specs.Mark.{mark_of};
 ghost use Rattle.rds_state.specs.Value.{coordinates};
-ghost use Rattle.rds_tree.specs.Cuts.{path_in};
+ghost use Rattle.rds_tree.specs.Cuts.{path_covered};
 ghost use Rattle.rds_tree.specs.EditsWithDelta.{EditsWithDelta};
 ghost use Rattle.rds_tree.specs.Growing.{Holds};
 ghost use Rattle.rds_tree.specs.Held.{killed_in};
@@ -168,7 +168,7 @@ fn killed<S: DotSet>(
     command: &Command,
     path: &Path,
 ) -> Result<Lives<S>, Fault>
-    requires path { path.now ≡ path_in command.now }
+    requires path { path.now ≡ path_covered command.now }
     requires holds { IfSome tree (λ t. Holds (live_rows replica.now.state.lives) t.now) }
     ensures ok { IfOk result (λ lives. (d : Dot)
         → map.get lives d ≡ life_killed command.now (map.get replica.now.state.lives d)) }

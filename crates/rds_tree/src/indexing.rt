@@ -3,7 +3,7 @@ ghost use Rattle.std.specs.Prelude.{◌≡◌, None};
 ghost use Rattle.rds_life.specs.Life.{live_rows};
 ghost use Rattle.rds_state.specs.Chosen.{parts_of};
 ghost use Rattle.rds_state.specs.Results.{EditsReplica};
-ghost use Rattle.rds_tree.specs.Cuts.{path_in, IsRaise};
+ghost use Rattle.rds_tree.specs.Cuts.{path_covered, IsRaise};
 ghost use Rattle.rds_tree.specs.Growing.{Holds};
 
 use crate::covered::path_of;
@@ -38,7 +38,7 @@ fn kill<S: DotSet>(
     command: &Command,
     path: &Path,
 ) -> Result<Edited, Fault>
-    requires path { path.now ≡ path_in command.now }
+    requires path { path.now ≡ path_covered command.now }
     requires parts { parts_of command.now ≡ None }
     requires holds { Holds (live_rows replica.old.state.lives) tree.old }
     ensures holds { Holds (live_rows replica.new.state.lives) tree.new }

@@ -7,7 +7,7 @@ ghost use Rattle.rds_state.specs.Value.{StateValue};
 ghost use Rattle.rds_tree.specs.Document.{document};
 ghost use Rattle.rds_tree.specs.SameDocument.{AreSameDocument};
 ghost use Rattle.rds_tree.specs.Shown.{Shown};
-ghost use Rattle.rds_tree.specs.Shows.{counters_in, has_value, HasSums, IsInOrder, IsLiveAt, IsLiveBelow, map_at};
+ghost use Rattle.rds_tree.specs.Shows.{counters_in, shows_value, HasSums, IsInOrder, IsLiveAt, IsLiveBelow, map_at};
 ghost use Rattle.rds_tree.specs.Shows.{maps_in, regs_in, sets_in};
 ghost use Rattle.rds_tree.specs.View.{view_of};
 
@@ -18,9 +18,9 @@ ghost use Rattle.rds_tree.specs.View.{view_of};
 /// integers by size, texts by their bytes. The function does nothing: its contract is these laws.
 pub fn views_show_what_is_live()
     ensures regs { (v : StateValue) (path : List (List ℕ)) (key : List ℕ) (value : Scalar)
-        → (has_value (regs_in (view_of (document v) path)) key value ≡ true) ↔ IsLiveAt v (path ++ key ∷ []) Reg value }
+        → (shows_value (regs_in (view_of (document v) path)) key value ≡ true) ↔ IsLiveAt v (path ++ key ∷ []) Reg value }
     ensures sets { (v : StateValue) (path : List (List ℕ)) (key : List ℕ) (value : Scalar)
-        → (has_value (sets_in (view_of (document v) path)) key value ≡ true)
+        → (shows_value (sets_in (view_of (document v) path)) key value ≡ true)
         ↔ IsLiveAt v (path ++ key ∷ []) Elem value }
     ensures maps { (v : StateValue) (path : List (List ℕ)) (key : List ℕ) (shown : Shown)
         → (map_at (maps_in (view_of (document v) path)) key ≡ Some shown)

@@ -8,7 +8,7 @@ ghost use Rattle.rds_tree.specs.Cuts.{among_leaves, covered_leaf, covering, is_d
 ghost use Rattle.rds_tree.specs.Forms.{leaves_kept};
 ghost use Rattle.rds_tree.specs.Gathered.{values_in};
 ghost use Rattle.rds_tree.specs.Held.{IsGathered};
-ghost use Rattle.rds_tree.specs.Row.{is_full, AddsLeaf};
+ghost use Rattle.rds_tree.specs.Row.{is_filled, AddsLeaf};
 ghost use Rattle.rds_tree.specs.View.{values_once};
 ghost use Rattle.rds_tree.specs.declared.leaf.Leaf.{Leaf};
 
@@ -96,7 +96,7 @@ impl Leaves {
 
     /// Whether there is no leaf.
     pub fn is_empty(&self) -> bool
-        ensures { result ≡ not (is_full self.now) }
+        ensures { result ≡ not (is_filled self.now) }
     {
         match &self.form {
             Form::Empty => true,

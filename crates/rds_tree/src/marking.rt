@@ -10,7 +10,7 @@ ghost use Rattle.rds_state.specs.Edit.{covers};
 ghost use Rattle.rds_state.specs.Fits.{ReplicaValue};
 ghost use Rattle.rds_state.specs.Mark.{mark_of};
 ghost use Rattle.rds_state.specs.Results.{EditsReplica};
-ghost use Rattle.rds_tree.specs.Cuts.{path_in};
+ghost use Rattle.rds_tree.specs.Cuts.{path_covered};
 ghost use Rattle.rds_tree.specs.Growing.{Holds};
 ghost use Rattle.rds_tree.specs.Marks.{coming, going, mark_at, mark_in, marks_at, marks_in, marks_of, HasRows, IsMoved};
 
@@ -129,7 +129,7 @@ impl Going {
         command: &Command,
         path: &Path,
     ) -> Result<Going, Fault>
-        requires path { path.now ≡ path_in command.now }
+        requires path { path.now ≡ path_covered command.now }
         requires holds { Holds (live_rows replica.now.state.lives) tree.now }
         ensures ok { IfOk result (λ gone. gone.dots ≡ count_by (λ r. covers command.now r.1)
             (live_rows replica.now.state.lives)

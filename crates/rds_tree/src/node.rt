@@ -11,7 +11,7 @@ ghost use Rattle.rds_tree.specs.Document.{key_cmp};
 ghost use Rattle.rds_tree.specs.Held.{IsGathered};
 ghost use Rattle.std.specs.Option.{option_to_list};
 ghost use Rattle.rds_names.specs.declared.fault.Fault.TheVariants.{Memory};
-ghost use Rattle.rds_tree.specs.View.{below_path, goes_on, shown_to, values_here, with_key};
+ghost use Rattle.rds_tree.specs.View.{below_path, goes_deeper, shown_to, values_here, with_key};
 
 use crate::leaf::Leaf;
 use crate::leaves::Leaves;
@@ -35,11 +35,11 @@ pub struct Node {
 
 impl Model for Node {
     ghost use Rattle.std.specs.Prelude.{List, ◌≡◌, true};
-    ghost use Rattle.rds_tree.specs.Row.{Row, rows_of, weight, are_full};
+    ghost use Rattle.rds_tree.specs.Row.{Row, rows_in_node, weight, are_full};
 
     ghost Value = { List Row };
 
-    ghost view = { λ a. rows_of a.leaves a.children.entries };
+    ghost view = { λ a. rows_in_node a.leaves a.children.entries };
 
     ghost invariant = { λ a. are_full a.children.entries ≡ true };
 
@@ -51,7 +51,7 @@ impl Model for Node {
 }
 
 impl Node {
-    ghost use Rattle.rds_tree.specs.Row.{is_full, placed_all, row_at, Adds};
+    ghost use Rattle.rds_tree.specs.Row.{is_filled, placed_all, leaf_row, AddsRow};
     ghost use Rattle.rds_tree.specs.Shown.{shown_view};
 
     /// A tree without leaves. Takes no memory.
@@ -66,7 +66,7 @@ impl Node {
 
     /// A tree of one leaf.
     fn single(alloc: Global, path: &[Key], leaf: Leaf) -> Result<Node, Fault>
-        ensures ok { IfOk result (λ node. node ≡ row_at path.now leaf ∷ []) }
+        ensures ok { IfOk result (λ node. node ≡ leaf_row path.now leaf ∷ []) }
         ensures memory { IfErr result (λ fault. fault ≡ Memory) }
     {
         match path.split_first() {
@@ -89,7 +89,7 @@ impl Node {
 
     /// Adds a leaf at the end of the path.
     pub fn insert(&mut self, alloc: Global, path: &[Key], leaf: Leaf) -> Result<(), Fault>
-        ensures ok { OnOk result (Adds self.old (row_at path.now leaf) self.new) }
+        ensures ok { OnOk result (AddsRow self.old (leaf_row path.now leaf) self.new) }
         ensures err { OnErr result (self.new ≡ self.old) }
         ensures memory { IfErr result (λ fault. fault ≡ Memory) }
     {
@@ -122,7 +122,7 @@ impl Node {
         ensures gathered { OnOk result
             (IsGathered (found_at (covered_leaf command.now) (is_deep command.now) path.now self.old)
             dots.old.items dots.new.items) }
-        ensures ok { OnOk result (Adds self.old (row_at path.now leaf) self.new) }
+        ensures ok { OnOk result (AddsRow self.old (leaf_row path.now leaf) self.new) }
         ensures err { OnErr result (self.new ≡ self.old) }
         ensures memory { IfErr result (λ fault. fault ≡ Memory) }
     {
@@ -144,7 +144,7 @@ impl Node {
 
     /// Whether there is no leaf.
     pub fn is_empty(&self) -> bool
-        ensures { result ≡ not (is_full self.now) }
+        ensures { result ≡ not (is_filled self.now) }
     {
         self.leaves.is_empty() && self.children.is_empty()
     }
@@ -299,7 +299,7 @@ impl Node {
 
     /// Whether a path goes on below.
     pub fn goes_on(&self) -> bool
-        ensures { result ≡ goes_on (placed_all self.now) }
+        ensures { result ≡ goes_deeper (placed_all self.now) }
     {
         !self.children.is_empty()
     }

@@ -11,7 +11,7 @@ ghost use Rattle.rds_tree.specs.Growing.{Holds, rows_under};
 ghost use Rattle.rds_tree.specs.Parts.{only_key, only_rows};
 ghost use Rattle.rds_tree.specs.Row.{placed_all};
 ghost use Rattle.rds_tree.specs.Shown.{maps_shown, shown_view};
-ghost use Rattle.rds_tree.specs.View.{below_path, counters_at, same_key, values_here, view_of, with_key};
+ghost use Rattle.rds_tree.specs.View.{below_path, counters_shown, same_key, values_here, view_of, with_key};
 
 use crate::document::{MOST_KEYS, add_leaf};
 use crate::node::{Node, push_values};
@@ -50,7 +50,7 @@ pub fn counters_of_key(
     key: &Key,
 ) -> Result<Option<Sums>, Fault>
     ensures ok { IfOk result
-        (λ counters. counters ≡ option_map (only_rows key.now) (counters_at above.now (sums_of counts.now))) }
+        (λ counters. counters ≡ option_map (only_rows key.now) (counters_shown above.now (sums_of counts.now))) }
     ensures memory { IfErr result (λ fault. fault ≡ Memory) }
 {
     if !above.is_empty() {

@@ -25,7 +25,7 @@ use Rattle.rds_world.specs.declared.event.Done.TheVariants.{Answered}
 use Rattle.rds_world.specs.World.{World, Question, after_answer, after, refusal_of, reply, unless_there}
 use Rattle.rds_world.specs.Stored.{AskText, AnswerText, WorldValue}
 use Rattle.rds_world.specs.Stands.{state_of, HoldsAsk, HoldsAnswer, Stands, IsWorld}
-use Rattle.rds_world.specs.Events.{IsLongAnswer, Refuses, NoMemory, Due, Long}
+use Rattle.rds_world.specs.Events.{MakesLongAnswer, RefusesEvent, NoMemory, Due, Long}
 use Rattle.rds_world.specs.Replies.{IsReply, HasNoReply, Lacks, Unread, TooBig}
 use Rattle.rds_world.specs.Steps.{IsStopped}
 use Rattle.rds_world.proofs.Performed.{IsDoneTo, is_there, not_there, matched_length, no_memory, read_at, stopped}
@@ -125,11 +125,11 @@ module _ (v : WorldValue) (i : IsWorld v) (r k : ℕ) (m : ReplicaValue) (a : As
   answer_stopped f (Unread read) = stopped v (Answer r k) f (λ w s.
       let q = ask_of w s in
       let is = unread_ask n q.it a q.related (ask_le w s) f read in
-      subst (Refuses v w (Answer r k)) (sym is) (NoMemory (due w s) tt))
+      subst (RefusesEvent v w (Answer r k)) (sym is) (NoMemory (due w s) tt))
   answer_stopped f (TooBig g read is long) = stopped v (Answer r k) f (λ w s.
       let q = ask_of w s in
       let e = read_ranks n q.it a q.related (ask_le w s) g read in
-      subst (Refuses v w (Answer r k)) (sym is) (Long (due w s)
+      subst (RefusesEvent v w (Answer r k)) (sym is) (Long (due w s)
       (record {
         asked = q.it;
         there = q.there;
@@ -181,7 +181,7 @@ module _ (v : WorldValue) (i : IsWorld v) (r k : ℕ) (m : ReplicaValue) (a : As
     stands : (w : World) (s : Stands v w) → Stands (record v { answers = v.answers ++ text ∷ [] }) (after w (Answer r k))
     stands w s = subst (Stands (record v { answers = v.answers ++ text ∷ [] })) (sym (answered_so w s)) (stands_answered v w (reply w r k (ask_of w s).it) text s (holds w s))
 
-    not_long : (w : World) (s : Stands v w) → IsLongAnswer w r k → ⊥
+    not_long : (w : World) (s : Stands v w) → MakesLongAnswer w r k → ⊥
     not_long w s l =
         let q = ask_of w s in
         let y = r'.reply in

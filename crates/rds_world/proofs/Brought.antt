@@ -11,7 +11,7 @@ use Rattle.rds_state.proofs.JoinLaws.{same_value}
 use Rattle.rds_codec.specs.AnswerTexts.{answer, answer_text}
 use Rattle.rds_world.specs.declared.event.Event.{Event}
 use Rattle.rds_world.specs.World.{World, Happening, Of, lend, reply}
-use Rattle.rds_world.specs.Coherent.{IsCoherent, Position, AtMemory, AtKept, Store, Memory, Kept, state_at, state_in}
+use Rattle.rds_world.specs.Coherent.{IsCoherent, Position, AtMemory, AtKept, Store, Memory, Kept, state_at_position, state_in}
 use Rattle.rds_world.specs.Law.{Law, world_after, held_after, held_in, bases_after, effects_after}
 use Rattle.rds_world.specs.Reached.{AnswersBringTheirAskers, OfAnswered, ReplicasAreCoherent, ReplicasAreJoins}
 use Rattle.rds_world.specs.Reached.{ReplicasExplainTheirDots, ReplicasShowTheirUpdates, ReplicasStayFriends}
@@ -29,7 +29,7 @@ position_of : Store → ℕ → Position
 position_of Memory r = AtMemory r
 position_of Kept r = AtKept r
 
-at_position : (w : World) (x : Store) (r : ℕ) → state_at w (position_of x r) ≡ Some (state_in w x r)
+at_position : (w : World) (x : Store) (r : ℕ) → state_at_position w (position_of x r) ≡ Some (state_in w x r)
 unfolding position_of
 at_position w Memory r = refl
 at_position w Kept r = refl

@@ -23,7 +23,7 @@ use Rattle.rds_world.specs.declared.event.Event.TheVariants.{Edit, Save, Crash, 
 use Rattle.rds_world.specs.World.{World, Happening, Of, AnswerLent, Question, Reply, empty, put, start, after_edit, lend}
 use Rattle.rds_world.specs.World.{reply_from, after_reply, after_lent, after_take, after, refusal_of, next, hindrance, run}
 use Rattle.rds_world.specs.World.{Accepted}
-use Rattle.rds_world.specs.Coherent.{Position, AtMemory, AtKept, AtAsk, AtAnswer, state_asked, state_answered, state_at}
+use Rattle.rds_world.specs.Coherent.{Position, AtMemory, AtKept, AtAsk, AtAnswer, state_asked, state_answered, state_at_position}
 use Rattle.rds_world.specs.Coherent.{AnswersIts, IsCoherent}
 use Rattle.rds_delta.proofs.LeastLaws.{compatible_sym, compatible_least, least_part, least_above}
 use Rattle.rds_world.proofs.States.{by_life, agree_if, compatible_same, knows_same, knows_grown, knows_join, knows_less}
@@ -46,13 +46,13 @@ answered_in : (P : Coordinates → Type 0) (o : Option Reply) (a : Coordinates) 
 answered_in P None a k e = cc
 answered_in P (Some m) a k e = subst P (same_some m.state a e) (k m refl)
 
-in_of : (w : World) (p : Position) (a : Coordinates) → state_at w p ≡ Some a → IsIn w a
+in_of : (w : World) (p : Position) (a : Coordinates) → state_at_position w p ≡ Some a → IsIn w a
 in_of w (AtMemory r) a e = subst (IsIn w) (same_some (w.memory r) a e) (of_memory r)
 in_of w (AtKept r) a e = subst (IsIn w) (same_some (w.kept r) a e) (of_kept r)
 in_of w (AtAsk k) a e = asked_in (IsIn w) (slice_get w.asks k) a (λ q p. of_ask k q p) e
 in_of w (AtAnswer k) a e = answered_in (IsIn w) (slice_get w.answers k) a (λ m p. of_answer k m p) e
 
-position_of : (w : World) (a : Coordinates) → IsIn w a → (p : Position) × (state_at w p ≡ Some a)
+position_of : (w : World) (a : Coordinates) → IsIn w a → (p : Position) × (state_at_position w p ≡ Some a)
 position_of w a (of_memory r) = (AtMemory r, refl)
 position_of w a (of_kept r) = (AtKept r, refl)
 position_of w a (of_ask k q e) = (AtAsk k, ap state_asked e)
@@ -79,7 +79,7 @@ module _ (w : World) (i : IsCoherent w) where
 -- where each state of a world is one of another or this one, which agrees with all of those
 module _ (v w : World) (i : IsCoherent v) where
   one_more : (x : Coordinates) → ((a : Coordinates) → IsIn w a → IsIn v a ⊎ (a ≡ x)) → ((a : Coordinates) → IsIn v a → AreCompatible x a)
-      → (p q : Position) (a b : Coordinates) → state_at w p ≡ Some a → state_at w q ≡ Some b → AreCompatible a b
+      → (p q : Position) (a b : Coordinates) → state_at_position w p ≡ Some a → state_at_position w q ≡ Some b → AreCompatible a b
   one_more x k h p q a b d e = go (k a (in_of w p a d)) (k b (in_of w q b e))
     where
       go : IsIn v a ⊎ (a ≡ x) → IsIn v b ⊎ (b ≡ x) → AreCompatible a b
@@ -88,14 +88,14 @@ module _ (v w : World) (i : IsCoherent v) where
       go (inr s) (inl t) = subst (λ y. AreCompatible y b) (sym s) (h b t)
       go (inr s) (inr t) = subst (λ y. AreCompatible y b) (sym s) (subst (AreCompatible x) (sym t) (compatible_same x))
 
-  one_fits : (x : Coordinates) → ((a : Coordinates) → IsIn w a → IsIn v a ⊎ (a ≡ x)) → Fits v.replicas x → (p : Position) (a : Coordinates) → state_at w p ≡ Some a → Fits v.replicas a
+  one_fits : (x : Coordinates) → ((a : Coordinates) → IsIn w a → IsIn v a ⊎ (a ≡ x)) → Fits v.replicas x → (p : Position) (a : Coordinates) → state_at_position w p ≡ Some a → Fits v.replicas a
   one_fits x k f p a d = elim (k a (in_of w p a d)) [ inl s ↦ fits_in v i a s | inr s ↦ subst (Fits v.replicas) (sym s) f ]
 
   -- where each state of a world is one of another
-  none_more : ((a : Coordinates) → IsIn w a → IsIn v a) → (p q : Position) (a b : Coordinates) → state_at w p ≡ Some a → state_at w q ≡ Some b → AreCompatible a b
+  none_more : ((a : Coordinates) → IsIn w a → IsIn v a) → (p q : Position) (a b : Coordinates) → state_at_position w p ≡ Some a → state_at_position w q ≡ Some b → AreCompatible a b
   none_more k p q a b d e = agree_in v i a b (k a (in_of w p a d)) (k b (in_of w q b e))
 
-  none_fit : ((a : Coordinates) → IsIn w a → IsIn v a) → (p : Position) (a : Coordinates) → state_at w p ≡ Some a → Fits v.replicas a
+  none_fit : ((a : Coordinates) → IsIn w a → IsIn v a) → (p : Position) (a : Coordinates) → state_at_position w p ≡ Some a → Fits v.replicas a
   none_fit k p a d = fits_in v i a (k a (in_of w p a d))
 
 module _ (w : World) (i : IsCoherent w) where
@@ -360,7 +360,7 @@ event_coherent w i (Answer s k) ok = answer_coherent w i s k (is_there s w.repli
 event_coherent w i (Take k) ok = take_coherent w i k (slice_get w.answers k) refl
 event_coherent w i (Grow r name) ok = grow_coherent w i r name
 
-is_empty : (n : List (List ℕ)) (p : Position) (a : Coordinates) → state_at (start n) p ≡ Some a → empty ≡ a
+is_empty : (n : List (List ℕ)) (p : Position) (a : Coordinates) → state_at_position (start n) p ≡ Some a → empty ≡ a
 is_empty n (AtMemory s) a e = same_some empty a e
 is_empty n (AtKept s) a e = same_some empty a e
 is_empty n (AtAsk k) a e = cc

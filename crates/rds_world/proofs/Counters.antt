@@ -12,7 +12,7 @@ use Rattle.rds_state.specs.Coordinates.{Coordinates}
 use Rattle.rds_counts.specs.Value.{total_by}
 use Rattle.rds_state.specs.Document.{IsCounted, value_in}
 use Rattle.rds_world.specs.World.{World}
-use Rattle.rds_world.specs.Held.{Update, Holdings, amount, share, IsChanged, total_of, value_of}
+use Rattle.rds_world.specs.Held.{Update, Holdings, amount, share, ChangesCounter, total_of, counter_value}
 use Rattle.rds_world.specs.Coherent.{Store, state_in}
 use Rattle.rds_world.specs.Law.{held_in}
 use Rattle.rds_world.specs.Updates.{effect_of, ShowsUpdates}
@@ -192,10 +192,10 @@ module _ (T : ℕ → Update) (B : ℕ → Coordinates) (h : Holdings) (w : Worl
       ∙ store_sum which R le
       ∙ sym (sum_is (share T (held_in h x r) key which) h.size)
 
-  store_value : (R : ℕ) → R ≡ 256 → w.replicas ≤ R → value_in (state_in w x r) key ≡ value_of T h.size (held_in h x r) key
+  store_value : (R : ℕ) → R ≡ 256 → w.replicas ≤ R → value_in (state_in w x r) key ≡ counter_value T h.size (held_in h x r) key
   store_value R e le = λ i. pos (store_total R e le P i) -ℤ pos (store_total R e le N i)
 
-  counted_changed : IsCounted (state_in w x r) key → IsChanged T (held_in h x r) key
+  counted_changed : IsCounted (state_in w x r) key → ChangesCounter T (held_in h x r) key
   counted_changed c =
       let e = store_number T B h w l key c.1 c.0 x r in
       let p : 0 < (state_in w x r).number (place key c.0 c.1) = c.2 in
@@ -203,7 +203,7 @@ module _ (T : ℕ → Update) (B : ℕ → Coordinates) (h : Holdings) (w : Worl
       let s = parts_of_share (of_replica T (held_in h x r) c.0 u.0) (amount (T u.0).command key c.1) u.2 in
       (u.0, c.1, first_part (held_in h x r u.0) ((T u.0).replica == c.0) s.0, s.1)
 
-  changed_counted : IsChanged T (held_in h x r) key → IsCounted (state_in w x r) key
+  changed_counted : ChangesCounter T (held_in h x r) key → IsCounted (state_in w x r) key
   changed_counted u =
       let s = (T u.0).replica in
       let e = store_number T B h w l key u.1 s x r in

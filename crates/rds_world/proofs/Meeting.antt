@@ -9,7 +9,7 @@ use Rattle.rds_names.specs.declared.fault.Fault.{Fault}
 use Rattle.rds_world.specs.declared.event.Event.{Event}
 use Rattle.rds_world.specs.declared.event.Event.TheVariants.{Edit, Save, Crash, Ask, Answer, Take, Grow}
 use Rattle.rds_world.specs.declared.event.Done.{Done}
-use Rattle.rds_world.specs.Events.{roster_after}
+use Rattle.rds_world.specs.Events.{roster_after_event}
 use Rattle.rds_world.specs.Steps.{IsStep, IsStopped}
 use Rattle.rds_world.specs.Stored.{WorldValue}
 
@@ -24,7 +24,7 @@ pub begins_on : (r s t : RosterValue) → Begins r s → Begins s t → Begins r
 begins_on r s t a b = (a.0 ∙ b.0, (a.1.0 ++ b.1.0, b.1.1 ∙ ap (λ xs. xs ++ b.1.0) a.1.1 ∙ append_assoc r.names a.1.0 b.1.0))
 
 -- a step's roster begins with the one before it
-pub begins_after : (r : RosterValue) (e : Event) → Begins r (roster_after r e)
+pub begins_after : (r : RosterValue) (e : Event) → Begins r (roster_after_event r e)
 begins_after r (Edit n c) = begins_itself r
 begins_after r (Save n) = begins_itself r
 begins_after r (Crash n) = begins_itself r
@@ -37,7 +37,7 @@ pub begins_then : (old new : WorldValue) (e : Event) (result : Result Done Fault
 begins_then old new e (Ok done) ok err = subst (Begins old.roster) (sym ok.roster) (begins_after old.roster e)
 begins_then old new e (Err fault) ok err = subst (λ (u : WorldValue). Begins old.roster u.roster) (sym err.same) (begins_itself old.roster)
 
-pub roster_then : (old new : WorldValue) (e : Event) (result : Result Done Fault) → IfOk result (λ done. IsStep old e done new) → OnOk result (new.roster ≡ roster_after old.roster e)
+pub roster_then : (old new : WorldValue) (e : Event) (result : Result Done Fault) → IfOk result (λ done. IsStep old e done new) → OnOk result (new.roster ≡ roster_after_event old.roster e)
 roster_then old new e (Ok done) ok = ok.roster
 roster_then old new e (Err fault) ok = tt
 

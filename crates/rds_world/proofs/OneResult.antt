@@ -15,7 +15,7 @@ use Rattle.rds_world.specs.declared.event.Done.TheVariants.{Edited, Plain, Asked
 use Rattle.rds_world.specs.World.{World, Question, after, after_answer, refusal_of, reply, unless_there}
 use Rattle.rds_world.specs.Stored.{WorldValue}
 use Rattle.rds_world.specs.Stands.{HoldsAnswer, Stands}
-use Rattle.rds_world.specs.Events.{IsAccepted, IsAnswered, IsDone, IsEdited, Refuses, NoMemory, Due, Long}
+use Rattle.rds_world.specs.Events.{IsAccepted, IsAnswerMade, IsDone, IsEffected, RefusesEvent, NoMemory, Due, Long}
 use Rattle.rds_world.specs.Steps.{StepsHaveOneResult}
 use Rattle.rds_world.proofs.Coherent.{is_there, there}
 use Rattle.rds_world.proofs.Tables.{get_last, matched_at, member_there, same_some, together_some}
@@ -23,7 +23,7 @@ use Rattle.rds_world.proofs.Values.{one_value}
 
 -- ---- what an event did
 
-edited_is : (v : WorldValue) (w : World) (r : ℕ) (c : Command) (a : Done) → IsDone v w (Edit r c) a → (e : Effected) × (a ≡ Edited e) × IsEdited v w r c e
+edited_is : (v : WorldValue) (w : World) (r : ℕ) (c : Command) (a : Done) → IsDone v w (Edit r c) a → (e : Effected) × (a ≡ Edited e) × IsEffected v w r c e
 edited_is v w r c (Edited e) h = (e, refl, h)
 edited_is v w r c a h = absurd h
 
@@ -39,7 +39,7 @@ asked_is : (v : WorldValue) (w : World) (r : ℕ) (a : Done) → IsDone v w (Ask
 asked_is v w r (Asked k) h = ap Asked h
 asked_is v w r a h = absurd h
 
-answered_is : (v : WorldValue) (w : World) (s k : ℕ) (a : Done) → IsDone v w (Answer s k) a → (at many : ℕ) × (a ≡ Answered at many) × IsAnswered w s k at many
+answered_is : (v : WorldValue) (w : World) (s k : ℕ) (a : Done) → IsDone v w (Answer s k) a → (at many : ℕ) × (a ≡ Answered at many) × IsAnswerMade w s k at many
 answered_is v w s k (Answered at many) h = (at, many, refl, h)
 answered_is v w s k a h = absurd h
 
@@ -51,7 +51,7 @@ grown_is : (v : WorldValue) (w : World) (r : ℕ) (name : List ℕ) (a : Done) �
 grown_is v w r name Plain h = refl
 grown_is v w r name a h = absurd h
 
-one_edit : (v : WorldValue) (w : World) (r : ℕ) (c : Command) → r < length v.memory → (d e : Effected) → IsEdited v w r c d → IsEdited v w r c e → d ≡ e
+one_edit : (v : WorldValue) (w : World) (r : ℕ) (c : Command) → r < length v.memory → (d e : Effected) → IsEffected v w r c d → IsEffected v w r c e → d ≡ e
 one_edit v w r c below d e h k =
     let here = member_there v.memory r below in
     let dot : d.dot ≡ e.dot = h.dot ∙ sym k.dot in
@@ -71,7 +71,7 @@ delta_there x w s k (Some p) q is t =
     let held = together_some (HoldsAnswer x.roster w.asks) (slice_get answers (length w.answers)) (slice_get x.answers (length w.answers)) (reply w s k p) both (get_last w.answers (reply w s k p)) in
     (held.2.value, held.2.state ∙ ap (λ (y : Question). (reply w s k y).state) (same_some p q is))
 
-one_answer : (x : WorldValue) (w : World) (s k : ℕ) → refusal_of w (Answer s k) ≡ None → Stands x (after w (Answer s k)) → (i j m n : ℕ) → IsAnswered w s k i m → IsAnswered w s k j n → Answered i m ≡ Answered j n
+one_answer : (x : WorldValue) (w : World) (s k : ℕ) → refusal_of w (Answer s k) ≡ None → Stands x (after w (Answer s k)) → (i j m n : ℕ) → IsAnswerMade w s k i m → IsAnswerMade w s k j n → Answered i m ≡ Answered j n
 one_answer x w s k due t i j m n h g =
     let asked = asked_there (slice_get w.asks k) (there (nat_lt s w.replicas) (unless_there (is_some (slice_get w.asks k)) None) due) in
     let delta = delta_there x w s k (slice_get w.asks k) asked.0 asked.1 t in
@@ -99,7 +99,7 @@ one_done v x w (Grow r name) s t due a b h k = grown_is v w r name a h ∙ sym (
 -- ---- why an event is refused
 
 -- what is accepted is refused for want of memory alone
-accepted_too : (v : WorldValue) (w : World) (e : Event) → IsAccepted v w e → (f : Fault) → Refuses v w e f → f ≡ Memory
+accepted_too : (v : WorldValue) (w : World) (e : Event) → IsAccepted v w e → (f : Fault) → RefusesEvent v w e f → f ≡ Memory
 accepted_too v w e a f (NoMemory due takes) = refl
 accepted_too v w e a f (Due g is) = absurd (cc (is, a.due))
 accepted_too v w e a f (Long due long) = absurd (a.short long)
@@ -109,7 +109,7 @@ data Why (v : WorldValue) (w : World) (e : Event) (f : Fault) : Type 0 where
   by_model : refusal_of w e ≡ Some f → Why v w e f
   by_length : refusal_of w e ≡ None → f ≡ TooLong → Why v w e f
 
-why : (v : WorldValue) (w : World) (e : Event) (f : Fault) → Refuses v w e f → Why v w e f
+why : (v : WorldValue) (w : World) (e : Event) (f : Fault) → RefusesEvent v w e f → Why v w e f
 why v w e f (NoMemory due takes) = by_memory refl
 why v w e f (Due g is) = by_model is
 why v w e f (Long due long) = by_length due refl

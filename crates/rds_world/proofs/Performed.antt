@@ -25,7 +25,7 @@ use Rattle.rds_world.specs.declared.world.World.TheInside.{Inside}
 use Rattle.rds_world.specs.World.{World, Question, after_edit, put, refusal_of, unless_there}
 use Rattle.rds_world.specs.Stored.{AskText, WorldValue}
 use Rattle.rds_world.specs.Stands.{state_of, HoldsAsk, Stands, HasModel, IsWhole, IsWorld}
-use Rattle.rds_world.specs.Events.{Refuses, NoMemory, Due, Long, TakesMemory, IsLongSnapshot}
+use Rattle.rds_world.specs.Events.{RefusesEvent, NoMemory, Due, Long, TakesMemory, IsLongSnapshot}
 use Rattle.rds_world.specs.Steps.{IsStep, IsStopped}
 use Rattle.rds_world.proofs.Edits.{edit_is}
 use Rattle.rds_world.proofs.Standing.{names_put, names_same, places_set, stands_memory, stands_kept, stands_asked}
@@ -63,7 +63,7 @@ is_there r n due h = ap (λ b. unless_there b due) (lt-ltb r n h)
 pub not_there : (r n : ℕ) (due : Option Fault) → n ≤ r → unless_there (nat_lt r n) due ≡ Some NoSuch
 not_there r n due h = ap (λ b. unless_there b due) (le-ltb r n h)
 
-pub stopped : (v : WorldValue) (e : Event) (f : Fault) → ((w : World) → Stands v w → Refuses v w e f) → IsStopped v e f v
+pub stopped : (v : WorldValue) (e : Event) (f : Fault) → ((w : World) → Stands v w → RefusesEvent v w e f) → IsStopped v e f v
 stopped v e f h = record { refused = h; same = refl }
 
 -- want of memory, where nothing is in the way that is found without memory
@@ -134,7 +134,7 @@ module _ (v : WorldValue) (i : IsWorld v) (r : ℕ) (m : ReplicaValue) (lt : r <
         let same = in_model w s in
         (λ j. needs_room (same j) (own j) c) ∙ not_false (needs_room (coordinates m.state) m.own c) room
 
-    edit_stopped_by : (f : Fault) → IsDue (refusal (coordinates m.state) m.own c) f → (needs_room (coordinates m.state) m.own c ≡ false → f ≢ Memory) → (w : World) → Stands v w → Refuses v w (Edit r c) f
+    edit_stopped_by : (f : Fault) → IsDue (refusal (coordinates m.state) m.own c) f → (needs_room (coordinates m.state) m.own c ≡ false → f ≢ Memory) → (w : World) → Stands v w → RefusesEvent v w (Edit r c) f
     edit_stopped_by Memory h room w s = NoMemory (edit_due w s ∙ h) (edit_takes (λ e. room e refl) w s)
     edit_stopped_by f h room w s = Due f (edit_due w s ∙ h)
 

@@ -16,7 +16,7 @@ use Rattle.rds_codec.specs.DigestTexts.{digest_kind, digest_text}
 use Rattle.rds_codec.specs.Exchanged.{IsAskOf, IsCertified, IsLongAnswer, IsLost, IsReplyTo, TakesCertified, Certified}
 use Rattle.rds_codec.specs.Exchanged.{Uncertified}
 use Rattle.rds_codec.specs.declared.limits.TheConstants.{LIMIT}
-use Rattle.rds_world.specs.Replies.{IsReply, HasNoReply, Lacks, TooBig, IsTaken, IsNotTaken, Untaken}
+use Rattle.rds_world.specs.Replies.{IsReply, HasNoReply, Lacks, TooBig, TakesReply, IsNotTaken, Untaken}
 use Rattle.rds_world.specs.Replies as replies
 use Rattle.rds_world.specs.Stands.{HoldsAsk}
 
@@ -71,7 +71,7 @@ pub record AreRead (n : ℕ) (ask bytes : List ℕ) (digest : DigestValue) (a : 
   pub answered : Decodes (answer_kind n) bytes (Ok a)
 
 module _ (n : ℕ) (ask bytes : List ℕ) (own : ℕ) (old : StateValue) (digest : DigestValue) (a : AnswerValue) (read : AreRead n ask bytes digest a) where
-  pub is_taken : (new : StateValue) (r : Result (Unit {0}) Fault) → OnOk r (IsCertified digest a) → OnOk r (coordinates new ≡ join (coordinates old) (coordinates a.state)) → OnOk r (IsTaken n ask bytes old new)
+  pub is_taken : (new : StateValue) (r : Result (Unit {0}) Fault) → OnOk r (IsCertified digest a) → OnOk r (coordinates new ≡ join (coordinates old) (coordinates a.state)) → OnOk r (TakesReply n ask bytes old new)
   is_taken new (Ok x) certified joined = record { digest = digest; asked = read.asked; answer = a; read = read.answered; certified = certified; joined = joined }
   is_taken new (Err f) certified joined = tt
 

@@ -12,11 +12,11 @@ use Rattle.rds_world.specs.declared.event.Event.{Event}
 use Rattle.rds_world.specs.declared.event.Event.TheVariants.{Edit, Save, Crash, Ask, Answer, Take, Grow}
 use Rattle.rds_world.specs.World.{World, Of, Question, Reply, after, after_answer, after_take, run, start, Accepted}
 use Rattle.rds_world.specs.Coherent.{Store, Memory, Kept, state_in}
-use Rattle.rds_world.specs.Events.{IsAccepted, Refuses, roster_after}
+use Rattle.rds_world.specs.Events.{IsAccepted, RefusesEvent, roster_after_event}
 use Rattle.rds_world.specs.Law.{Afterwards, Law, bases_after, held_after, world_after}
 use Rattle.rds_world.specs.Reached.{replicas_in}
 use Rattle.rds_world.specs.Replies.{EachAnswerIsCertified}
-use Rattle.rds_world.specs.Simulation.{roster_in, AllHappen, Happens, Reaches, Stops}
+use Rattle.rds_world.specs.Simulation.{roster_with_names, AllHappen, Happens, Reaches, Stops}
 use Rattle.rds_world.specs.Stands.{state_of, Stands}
 use Rattle.rds_world.specs.Stored.{AnswerText, WorldValue}
 use Rattle.rds_world.proofs.Answering.{each_answer_brings, each_lent_brings}
@@ -41,7 +41,7 @@ take_roster : (w : World) (o : Option Reply) → (after_take w o).roster ≡ w.r
 take_roster w None = refl
 take_roster w (Some m) = refl
 
-pub roster_goes_on : (roster : RosterValue) (w : World) (e : Event) → roster_in roster (after w e) ≡ roster_after (roster_in roster w) e
+pub roster_goes_on : (roster : RosterValue) (w : World) (e : Event) → roster_with_names roster (after w e) ≡ roster_after_event (roster_with_names roster w) e
 roster_goes_on roster w (Edit r c) = refl
 roster_goes_on roster w (Save r) = refl
 roster_goes_on roster w (Crash r) = refl
@@ -70,24 +70,24 @@ module _ (roster : RosterValue) (xs : List Event) (i : ℕ) (e : Event) (lt : i 
   abbrev w : World
   w = world_after n (map Of (take i xs))
 
-  pub reaches_more : (u : WorldValue) → u.roster ≡ roster_after v.roster e → IsAccepted v w e → Stands u (after w e) → Reaches roster (take (i + 1) xs) u
+  pub reaches_more : (u : WorldValue) → u.roster ≡ roster_after_event v.roster e → IsAccepted v w e → Stands u (after w e) → Reaches roster (take (i + 1) xs) u
   reaches_more u same accepted stands =
       let more : take (i + 1) xs ≡ take i xs ++ e ∷ [] = take_more xs i e lt ∙ ap (λ x. take i xs ++ x ∷ []) is in
       let last : world_after n (map Of (take i xs ++ e ∷ [])) ≡ after w e = run_last (take i xs) e (start n) in
       subst (λ es. Reaches roster es u) (sym more) (record {
         happened = happens_last roster (take i xs) e (start n) reached.happened (record { value = v; of_roster = reached.of_roster; stands = reached.stands; accepted = accepted });
         stands = subst (Stands u) (sym last) stands;
-        of_roster = same ∙ ap (λ r. roster_after r e) reached.of_roster ∙ sym (roster_goes_on roster w e) ∙ ap (roster_in roster) (sym last);
+        of_roster = same ∙ ap (λ r. roster_after_event r e) reached.of_roster ∙ sym (roster_goes_on roster w e) ∙ ap (roster_with_names roster) (sym last);
       })
 
-  pub stops_here : (u : WorldValue) (f : Fault) → u ≡ v → Refuses v w e f → Stops roster xs u f
+  pub stops_here : (u : WorldValue) (f : Fault) → u ≡ v → RefusesEvent v w e f → Stops roster xs u f
   stops_here u f same refused = inl (record {
     before = take i xs;
     last = e;
     later = drop (suc i) xs;
     whole = split xs i e lt is;
     reached = subst (Reaches roster (take i xs)) (sym same) reached;
-    refused = subst (λ z. Refuses z w e f) (sym same) refused;
+    refused = subst (λ z. RefusesEvent z w e f) (sym same) refused;
   })
     where
       split : (xs : List Event) (i : ℕ) (e : Event) → i < length xs → get_or xs i e ≡ e → xs ≡ take i xs ++ e ∷ drop (suc i) xs

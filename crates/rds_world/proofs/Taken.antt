@@ -22,8 +22,8 @@ use Rattle.rds_world.specs.declared.event.Done.TheVariants.{Plain}
 use Rattle.rds_world.specs.World.{World, after, put, refusal_of, after_take}
 use Rattle.rds_world.specs.Stored.{AskText, AnswerText, WorldValue}
 use Rattle.rds_world.specs.Stands.{state_of, HasModel, HoldsAnswer, Stands, IsWorld}
-use Rattle.rds_world.specs.Events.{Refuses, NoMemory, Due}
-use Rattle.rds_world.specs.Replies.{IsTaken, IsNotTaken, NoCopy, NoDigest, NoAnswer, Uncertified, Untaken}
+use Rattle.rds_world.specs.Events.{RefusesEvent, NoMemory, Due}
+use Rattle.rds_world.specs.Replies.{TakesReply, IsNotTaken, NoCopy, NoDigest, NoAnswer, Uncertified, Untaken}
 use Rattle.rds_world.specs.Steps.{IsStopped}
 use Rattle.rds_world.proofs.Answered.{HasPartner, absent_at, less_by, present_at}
 use Rattle.rds_world.proofs.Certified as bytes
@@ -115,24 +115,24 @@ module _ (v : WorldValue) (i : IsWorld v) (k : ℕ) (t : AnswerText) (a : AskTex
       same_fault : (f : Fault) → (let r : Result (Unit {0}) Fault = Err f in r ≡ Err Memory) → f ≡ Memory
       same_fault f e = cc
 
-  stopped_by : (f : Fault) → IsNotTaken n a.bytes t.bytes m.own m.state f → (w : World) (s : Stands v w) → Refuses v w (Take k) f
+  stopped_by : (f : Fault) → IsNotTaken n a.bytes t.bytes m.own m.state f → (w : World) (s : Stands v w) → RefusesEvent v w (Take k) f
   stopped_by f (NoDigest d) w s =
       let is : f ≡ Memory = bytes.unread v k t a sent.answer sent.ask n le w s f d in
-      subst (Refuses v w (Take k)) (sym is) (NoMemory (due w s) tt)
+      subst (RefusesEvent v w (Take k)) (sym is) (NoMemory (due w s) tt)
   stopped_by f (NoAnswer d) w s =
       let is : f ≡ Memory = bytes.unread_reply v k t a sent.answer sent.ask n le w s f d in
-      subst (Refuses v w (Take k)) (sym is) (NoMemory (due w s) tt)
+      subst (RefusesEvent v w (Take k)) (sym is) (NoMemory (due w s) tt)
   stopped_by f (Uncertified g x dg dx is wrong) w s =
       absurd (∥∥₁_elim i.model ⊥_prop (λ h. wrong.wrong (bytes.certified v k t a sent.answer sent.ask n le h g x dg dx)))
-  stopped_by f (Untaken x dx gives) w s = subst (Refuses v w (Take k)) (sym (only_memory f x dx gives)) (NoMemory (due w s) tt)
-  stopped_by f (NoCopy is) w s = subst (Refuses v w (Take k)) (sym is) (NoMemory (due w s) tt)
+  stopped_by f (Untaken x dx gives) w s = subst (RefusesEvent v w (Take k)) (sym (only_memory f x dx gives)) (NoMemory (due w s) tt)
+  stopped_by f (NoCopy is) w s = subst (RefusesEvent v w (Take k)) (sym is) (NoMemory (due w s) tt)
 
   pub take_stopped : (x : ReplicaValue) (f : Fault) → x ≡ m → IsNotTaken n a.bytes t.bytes m.own m.state f → IsStopped v (Take k) f (record v { memory = set v.memory r x })
   take_stopped x f is h =
       let same : set v.memory r x ≡ v.memory = (λ j. set v.memory (sent.place j) (is j)) ∙ set_same v.memory t.asker m sent.replica in
       record { refused = stopped_by f h; same = λ j. record v { memory = same j } }
 
-  pub take_done : (x : ReplicaValue) → (x.roster ≡ longer m.roster t.roster) × (x.own ≡ m.own) → IsTaken n a.bytes t.bytes m.state x.state
+  pub take_done : (x : ReplicaValue) → (x.roster ≡ longer m.roster t.roster) × (x.own ≡ m.own) → TakesReply n a.bytes t.bytes m.state x.state
       → IsDoneTo v (Take k) Plain (record v { memory = set v.memory r x })
   take_done x same is =
       let lt = sent.below in

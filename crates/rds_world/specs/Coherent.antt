@@ -29,11 +29,11 @@ abbrev pub state_answered : Option Reply → Option Coordinates
 state_answered None = None
 state_answered (Some m) = Some m.state
 
-abbrev pub state_at : World → Position → Option Coordinates
-state_at w (AtMemory r) = Some (w.memory r)
-state_at w (AtKept r) = Some (w.kept r)
-state_at w (AtAsk k) = state_asked (slice_get w.asks k)
-state_at w (AtAnswer k) = state_answered (slice_get w.answers k)
+abbrev pub state_at_position : World → Position → Option Coordinates
+state_at_position w (AtMemory r) = Some (w.memory r)
+state_at_position w (AtKept r) = Some (w.kept r)
+state_at_position w (AtAsk k) = state_asked (slice_get w.asks k)
+state_at_position w (AtAnswer k) = state_answered (slice_get w.answers k)
 
 -- a replica's memory, or what it has kept
 pub data Store : Type 0 where
@@ -53,9 +53,9 @@ pub record AnswersIts (asks : List Question) (m : Reply) : Type 0 where
 
 pub record IsCoherent (w : World) : Type 0 where
   -- every two of all states are compatible
-  pub compatible : (p q : Position) (a b : Coordinates) → state_at w p ≡ Some a → state_at w q ≡ Some b → AreCompatible a b
+  pub compatible : (p q : Position) (a b : Coordinates) → state_at_position w p ≡ Some a → state_at_position w q ≡ Some b → AreCompatible a b
   -- every state speaks of the roster's replicas alone
-  pub fits : (p : Position) (a : Coordinates) → state_at w p ≡ Some a → Fits w.replicas a
+  pub fits : (p : Position) (a : Coordinates) → state_at_position w p ≡ Some a → Fits w.replicas a
   -- what others have of a replica, it has kept
   pub in_memory : (r s : ℕ) → r ≢ s → KnowsItsOwn s (w.kept s) (w.memory r)
   pub in_kept : (r s : ℕ) → KnowsItsOwn s (w.kept s) (w.kept r)

@@ -30,13 +30,13 @@ pub record IsLongSnapshot (v : WorldValue) (r : ℕ) : Type 0 where
   pub long : LIMIT < length (snapshot_text replica)
 
 -- the digest of a kept replica is above the limit
-pub record IsLongDigest (v : WorldValue) (r : ℕ) : Type 0 where
+pub record MakesLongDigest (v : WorldValue) (r : ℕ) : Type 0 where
   pub replica : ReplicaValue
   pub there : slice_get v.kept r ≡ Some replica
   pub long : exchanged.IsLongDigest replica.state
 
 -- the answer of s to ask k is above the limit
-pub record IsLongAnswer (w : World) (s k : ℕ) : Type 0 where
+pub record MakesLongAnswer (w : World) (s k : ℕ) : Type 0 where
   pub asked : Question
   pub there : slice_get w.asks k ≡ Some asked
   pub value : StateValue
@@ -50,8 +50,8 @@ abbrev pub MakesTooLong : WorldValue → World → Event → Type 0
 MakesTooLong v w (Edit r c) = ⊥
 MakesTooLong v w (Save r) = IsLongSnapshot v r
 MakesTooLong v w (Crash r) = ⊥
-MakesTooLong v w (Ask r) = IsLongDigest v r
-MakesTooLong v w (Answer s k) = IsLongAnswer w s k
+MakesTooLong v w (Ask r) = MakesLongDigest v r
+MakesTooLong v w (Answer s k) = MakesLongAnswer w s k
 MakesTooLong v w (Take k) = ⊥
 MakesTooLong v w (Grow r name) = ⊥
 
@@ -72,38 +72,38 @@ TakesMemory w (Grow r name) = Unit {0}
 
 -- What the model refuses it for; else a text that is made too long, or want of memory. That comes after what the
 -- model refuses, which is found without memory. It may come where a text is too long: its length is found with memory.
-pub data Refuses (v : WorldValue) (w : World) (e : Event) : Fault → Type 0 where
-  NoMemory : refusal_of w e ≡ None → TakesMemory w e → Refuses v w e Memory
-  Due : (f : Fault) → refusal_of w e ≡ Some f → Refuses v w e f
-  Long : refusal_of w e ≡ None → MakesTooLong v w e → Refuses v w e TooLong
+pub data RefusesEvent (v : WorldValue) (w : World) (e : Event) : Fault → Type 0 where
+  NoMemory : refusal_of w e ≡ None → TakesMemory w e → RefusesEvent v w e Memory
+  Due : (f : Fault) → refusal_of w e ≡ Some f → RefusesEvent v w e f
+  Long : refusal_of w e ≡ None → MakesTooLong v w e → RefusesEvent v w e TooLong
 
 -- the roster after an event that isn't refused
-abbrev pub roster_after : RosterValue → Event → RosterValue
-roster_after roster (Edit r c) = roster
-roster_after roster (Save r) = roster
-roster_after roster (Crash r) = roster
-roster_after roster (Ask r) = roster
-roster_after roster (Answer s k) = roster
-roster_after roster (Take k) = roster
-roster_after roster (Grow r name) = record roster { names = roster.names ++ name ∷ [] }
+abbrev pub roster_after_event : RosterValue → Event → RosterValue
+roster_after_event roster (Edit r c) = roster
+roster_after_event roster (Save r) = roster
+roster_after_event roster (Crash r) = roster
+roster_after_event roster (Ask r) = roster
+roster_after_event roster (Answer s k) = roster
+roster_after_event roster (Take k) = roster
+roster_after_event roster (Grow r name) = record roster { names = roster.names ++ name ∷ [] }
 
 -- what an edit did: the dot that it made, and how many live dots it covers
-pub record IsEdited (v : WorldValue) (w : World) (r : ℕ) (c : Command) (e : Effected) : Type 0 where
+pub record IsEffected (v : WorldValue) (w : World) (r : ℕ) (c : Command) (e : Effected) : Type 0 where
   pub dot : e.dot ≡ new_dot (w.memory r) r c
   pub killed : (m : ReplicaValue) → slice_get v.memory r ≡ Some m → e.killed ≡ count_by (λ row. covers c row.1) (live_rows m.state.lives)
 
 -- the number of an answer, and how many components its delta has
-pub record IsAnswered (w : World) (s k at many : ℕ) : Type 0 where
+pub record IsAnswerMade (w : World) (s k at many : ℕ) : Type 0 where
   pub number : at ≡ length w.answers
   pub components : (q : Question) (d : StateValue) → slice_get w.asks k ≡ Some q → coordinates d ≡ (reply w s k q).state → many ≡ size d
 
 -- what the event answers
 abbrev pub IsDone : WorldValue → World → Event → Done → Type 0
-IsDone v w (Edit r c) (Edited e) = IsEdited v w r c e
+IsDone v w (Edit r c) (Edited e) = IsEffected v w r c e
 IsDone v w (Save r) Plain = Unit {0}
 IsDone v w (Crash r) Plain = Unit {0}
 IsDone v w (Ask r) (Asked k) = k ≡ length w.asks
-IsDone v w (Answer s j) (Answered k components) = IsAnswered w s j k components
+IsDone v w (Answer s j) (Answered k components) = IsAnswerMade w s j k components
 IsDone v w (Take k) Plain = Unit {0}
 IsDone v w (Grow r name) Plain = Unit {0}
 IsDone v w e done = ⊥

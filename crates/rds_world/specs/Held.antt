@@ -102,13 +102,13 @@ abbrev pub share : (ℕ → Update) → (ℕ → Bool) → List ℕ → Which �
 share T S key which u = cond (S u) (amount (T u).command key which) 0
 
 -- an update of the set changes the counter
-abbrev pub IsChanged : (ℕ → Update) → (ℕ → Bool) → List ℕ → Type 0
-IsChanged T S key = (u : ℕ) × (which : Which) × (S u ≡ true) × (0 < amount (T u).command key which)
+abbrev pub ChangesCounter : (ℕ → Update) → (ℕ → Bool) → List ℕ → Type 0
+ChangesCounter T S key = (u : ℕ) × (which : Which) × (S u ≡ true) × (0 < amount (T u).command key which)
 
 -- what the first updates add that are of the set
 abbrev pub total_of : (ℕ → Update) → ℕ → (ℕ → Bool) → List ℕ → Which → ℕ
 total_of T size S key which = sum_by (share T S key which) (range_with_len 0 size)
 
 -- all increments less all decrements
-abbrev pub value_of : (ℕ → Update) → ℕ → (ℕ → Bool) → List ℕ → ℤ
-value_of T size S key = pos (total_of T size S key P) -ℤ pos (total_of T size S key N)
+abbrev pub counter_value : (ℕ → Update) → ℕ → (ℕ → Bool) → List ℕ → ℤ
+counter_value T size S key = pos (total_of T size S key P) -ℤ pos (total_of T size S key N)

@@ -30,7 +30,7 @@ pub data HasNoReply (n : ℕ) (ask : List ℕ) (asker : ℕ) (held : StateValue)
   TooBig : (digest : DigestValue) → Decodes (digest_kind n) ask (Ok digest) → fault ≡ TooLong → IsLongAnswer digest asker held → HasNoReply n ask asker held fault
 
 -- the digest and the answer to it were read, the certificate was the right one, and the delta is joined
-pub record IsTaken (n : ℕ) (ask bytes : List ℕ) (old new : StateValue) : Type 0 where
+pub record TakesReply (n : ℕ) (ask bytes : List ℕ) (old new : StateValue) : Type 0 where
   pub digest : DigestValue
   pub asked : Decodes (digest_kind n) ask (Ok digest)
   pub answer : AnswerValue

@@ -7,17 +7,17 @@ use Rattle.rds_world.specs.declared.event.Event.{Event}
 use Rattle.rds_world.specs.World.{World, Of, after, start}
 use Rattle.rds_world.specs.Stored.{WorldValue}
 use Rattle.rds_world.specs.Stands.{Stands}
-use Rattle.rds_world.specs.Events.{IsAccepted, Refuses}
+use Rattle.rds_world.specs.Events.{IsAccepted, RefusesEvent}
 use Rattle.rds_world.specs.Law.{world_after}
 
 -- the roster with which a group began, with the names of a world
-abbrev pub roster_in : RosterValue → World → RosterValue
-roster_in roster w = record roster { names = w.roster }
+abbrev pub roster_with_names : RosterValue → World → RosterValue
+roster_with_names roster w = record roster { names = w.roster }
 
 -- what stands for the model's world, of a group that began with this roster, accepts the event: it makes nothing too long
 pub record Happens (roster : RosterValue) (w : World) (e : Event) : Type 0 where
   pub value : WorldValue
-  pub of_roster : value.roster ≡ roster_in roster w
+  pub of_roster : value.roster ≡ roster_with_names roster w
   pub stands : Stands value w
   pub accepted : IsAccepted value w e
 
@@ -30,7 +30,7 @@ AllHappen roster (e ∷ es) w = Happens roster w e × AllHappen roster es (after
 pub record Reaches (roster : RosterValue) (es : List Event) (v : WorldValue) : Type 0 where
   pub happened : AllHappen roster es (start roster.names)
   pub stands : Stands v (world_after roster.names (map Of es))
-  pub of_roster : v.roster ≡ roster_in roster (world_after roster.names (map Of es))
+  pub of_roster : v.roster ≡ roster_with_names roster (world_after roster.names (map Of es))
 
 -- the world was reached before an event that is refused so
 pub record StopsAt (roster : RosterValue) (es : List Event) (v : WorldValue) (fault : Fault) : Type 0 where
@@ -39,7 +39,7 @@ pub record StopsAt (roster : RosterValue) (es : List Event) (v : WorldValue) (fa
   pub later : List Event
   pub whole : es ≡ before ++ last ∷ later
   pub reached : Reaches roster before v
-  pub refused : Refuses v (world_after roster.names (map Of before)) last fault
+  pub refused : RefusesEvent v (world_after roster.names (map Of before)) last fault
 
 -- there was no memory for the replicas
 pub record HasNoReplicas (v : WorldValue) (fault : Fault) : Type 0 where

@@ -42,16 +42,16 @@ answer_bytes_at answers k = bytes_answered (slice_get answers k)
 abbrev pub coded_ask : Coded AskText
 coded_ask = code_by (ℕ × (ℕ × List ℕ)) (coded× coded_ℕ (coded× coded_ℕ (coded_list coded_ℕ))) (λ a. (a.asker, (a.names, a.bytes))) (λ p. record { asker = p.0; names = p.1.0; bytes = p.1.1 }) (λ _. refl)
 
-abbrev pub coded_answer : Coded AnswerText
-coded_answer = code_by (ℕ × (ℕ × (RosterValue × List ℕ))) (coded× coded_ℕ (coded× coded_ℕ (coded× coded_roster (coded_list coded_ℕ)))) (λ a. (a.question, (a.asker, (a.roster, a.bytes))))
+abbrev pub coded_answer_text : Coded AnswerText
+coded_answer_text = code_by (ℕ × (ℕ × (RosterValue × List ℕ))) (coded× coded_ℕ (coded× coded_ℕ (coded× coded_roster (coded_list coded_ℕ)))) (λ a. (a.question, (a.asker, (a.roster, a.bytes))))
     (λ p. record { question = p.0; asker = p.1.0; roster = p.1.1.0; bytes = p.1.1.1 }) (λ _. refl)
 
-abbrev Parts : Type 0
-Parts = RosterValue × (List ReplicaValue × (List ReplicaValue × (List AskText × List AnswerText)))
+abbrev WorldParts : Type 0
+WorldParts = RosterValue × (List ReplicaValue × (List ReplicaValue × (List AskText × List AnswerText)))
 
-abbrev coded_parts : Coded Parts
-coded_parts = coded× coded_roster (coded× (coded_list coded_replica) (coded× (coded_list coded_replica) (coded× (coded_list coded_ask) (coded_list coded_answer))))
+abbrev coded_parts : Coded WorldParts
+coded_parts = coded× coded_roster (coded× (coded_list coded_replica) (coded× (coded_list coded_replica) (coded× (coded_list coded_ask) (coded_list coded_answer_text))))
 
 abbrev pub coded_world : Coded WorldValue
-coded_world = code_by Parts coded_parts (λ v. (v.roster, (v.memory, (v.kept, (v.asks, v.answers)))))
+coded_world = code_by WorldParts coded_parts (λ v. (v.roster, (v.memory, (v.kept, (v.asks, v.answers)))))
     (λ p. record { roster = p.0; memory = p.1.0; kept = p.1.1.0; asks = p.1.1.1.0; answers = p.1.1.1.1 }) (λ _. refl)

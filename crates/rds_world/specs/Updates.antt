@@ -9,7 +9,7 @@ use Rattle.rds_state.specs.Edit.{covers, effect, new_dot}
 use Rattle.rds_state.specs.Made.{entry_made}
 use Rattle.rds_world.specs.declared.event.Event.TheVariants.{Edit}
 use Rattle.rds_world.specs.World.{World, Happening, Of, put, next}
-use Rattle.rds_world.specs.Held.{Update, Holdings, held_next, IsPresent, IsChanged, value_of}
+use Rattle.rds_world.specs.Held.{Update, Holdings, held_next, IsPresent, ChangesCounter, counter_value}
 
 -- ---- the states on which edits ran
 
@@ -55,5 +55,5 @@ pub record IsExplained (T : ℕ → Update) (B : ℕ → Coordinates) (S : ℕ �
 -- the document of the state is that of the set's updates, of which there are so many in all
 pub record ShowsUpdates (T : ℕ → Update) (size : ℕ) (S : ℕ → Bool) (a : Coordinates) : Type 0 where
   pub entries : (e : Entry) → IsShown a e ↔ IsPresent T S e
-  pub keys : (key : List ℕ) → IsCounted a key ↔ IsChanged T S key
-  pub values : (key : List ℕ) → value_in a key ≡ value_of T size S key
+  pub keys : (key : List ℕ) → IsCounted a key ↔ ChangesCounter T S key
+  pub values : (key : List ℕ) → value_in a key ≡ counter_value T size S key

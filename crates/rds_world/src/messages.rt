@@ -9,7 +9,7 @@ ghost use Rattle.rds_delta.specs.Digested.{digest_of};
 ghost use Rattle.rds_codec.specs.DigestTexts.{digest_text};
 ghost use Rattle.rds_codec.specs.Exchanged.{IsCertified, IsLongDigest, IsLost, TakesCertified};
 ghost use Rattle.rds_codec.specs.declared.limits.TheConstants.{LIMIT};
-ghost use Rattle.rds_world.specs.Replies.{IsReply, HasNoReply, IsTaken, IsNotTaken};
+ghost use Rattle.rds_world.specs.Replies.{IsReply, HasNoReply, TakesReply, IsNotTaken};
 ghost use Rattle.rds_world.specs.Stands.{HoldsAsk};
 
 use crate::texts::{Answering, Asking};
@@ -98,7 +98,7 @@ pub fn take<S: DotSet>(
 ) -> Result<(), Fault>
     requires { OneBegins asker.old.roster answer.now.roster }
     ensures ok { OnOk result
-        (IsTaken (max (length asker.old.roster.names)
+        (TakesReply (max (length asker.old.roster.names)
         (length answer.now.roster.names)) ask.now.bytes answer.now.bytes asker.old.state asker.new.state) }
     ensures roster { OnOk result (asker.new.roster ≡ longer asker.old.roster answer.now.roster) }
     ensures own { OnOk result (asker.new.own ≡ asker.old.own) }
@@ -121,7 +121,7 @@ fn take_bytes<S: DotSet>(
 ) -> Result<(), Fault>
     requires { OneBegins asker.old.roster roster }
     ensures ok { OnOk result
-        (IsTaken (max (length asker.old.roster.names)
+        (TakesReply (max (length asker.old.roster.names)
         (length roster.names)) ask.now answer.now asker.old.state asker.new.state) }
     ensures roster { OnOk result (asker.new.roster ≡ longer asker.old.roster roster) }
     ensures own { OnOk result (asker.new.own ≡ asker.old.own) }

@@ -30,11 +30,11 @@ pub struct Answering {
 }
 
 impl Model for Answering {
-    ghost use Rattle.rds_world.specs.Stored.{AnswerText, coded_answer};
+    ghost use Rattle.rds_world.specs.Stored.{AnswerText, coded_answer_text};
 
     ghost Value = { AnswerText };
 
-    ghost coded = { coded_answer };
+    ghost coded = { coded_answer_text };
 
     ghost view = { λ a. record { question = a.question; asker = a.asker; roster = a.roster; bytes = a.bytes.items } };
 }

@@ -5,7 +5,7 @@ ghost use Rattle.rds_names.specs.Roster.{Begins};
 ghost use Rattle.rds_names.specs.declared.fault.Fault.TheVariants.{Memory, NoSuch};
 ghost use Rattle.rds_tree.specs.Shown.{shown_view};
 ghost use Rattle.rds_world.specs.declared.event.Event.TheVariants.{Edit, Save, Crash, Ask, Answer, Take, Grow};
-ghost use Rattle.rds_world.specs.Events.{IsAccepted, Refuses, IsDone, roster_after};
+ghost use Rattle.rds_world.specs.Events.{IsAccepted, RefusesEvent, IsDone, roster_after_event};
 ghost use Rattle.rds_world.specs.Shows.{IsNoSuch, ShowsAt};
 ghost use Rattle.rds_world.specs.Simulation.{HasNoReplicas};
 ghost use Rattle.rds_world.specs.Stands.{Stands, AreNew, IsWhole};
@@ -200,9 +200,9 @@ impl<S: DotSet> World<S> {
         ensures accepted { OnOk result ((w : ModelWorld) → Stands self.old w → IsAccepted self.old w event.now) }
         ensures after { OnOk result ((w : ModelWorld) → Stands self.old w → Stands self.new (after w event.now)) }
         ensures done { IfOk result (λ done. (w : ModelWorld) → Stands self.old w → IsDone self.old w event.now done) }
-        ensures refused { IfErr result (λ fault. (w : ModelWorld) → Stands self.old w → Refuses self.old w event.now fault) }
+        ensures refused { IfErr result (λ fault. (w : ModelWorld) → Stands self.old w → RefusesEvent self.old w event.now fault) }
         ensures err { OnErr result (self.new ≡ self.old) }
-        ensures roster { OnOk result (self.new.roster ≡ roster_after self.old.roster event.now) }
+        ensures roster { OnOk result (self.new.roster ≡ roster_after_event self.old.roster event.now) }
         ensures begins { Begins self.old.roster self.new.roster }
     {
         self.perform(alloc, event)

@@ -8,8 +8,8 @@ ghost use Rattle.rds_session.specs.Leaving.{Leaves};
 ghost use Rattle.rds_session.specs.Received.{delivery_of};
 ghost use Rattle.rds_session.specs.Steps.{IsOver, came};
 ghost use Rattle.rds_state.specs.Fits.{ReplicaValue};
-ghost use Rattle.rds_meetings.specs.Ends.{HasHeardAll, HasSaid, Hears, HearsOn, HeardTheEnd, Takes};
-ghost use Rattle.rds_meetings.specs.Pairing.{IsEnd, StaysEnd};
+ghost use Rattle.rds_meetings.specs.Ends.{HasHeardAll, HasSaid, Hears, HearsOn, HeardTheEnd, TakesInput};
+ghost use Rattle.rds_meetings.specs.Pairing.{IsPairEnd, StaysEnd};
 
 use super::pending::Pending;
 use rds_dots::DotSet;
@@ -54,7 +54,7 @@ impl<'a, T, S: DotSet> Model for End<'a, T, S> {
 impl<'a, T: Read + Write + OpenStream + Drop, S: DotSet> End<'a, T, S> {
     /// A session that has begun: what it says before it hears anything is to be written.
     pub fn begin(alloc: Global, side: Side, kept: &'a Kept<S>, stream: T) -> End<'a, T, S>
-        ensures end { IsEnd side kept.now result.session result.ended }
+        ensures end { IsPairEnd side kept.now result.session result.ended }
         ensures hears { Hears side kept.now (T.remaining stream) (T.remaining stream) [] result }
         ensures stream { result.stream ≡ stream }
         ensures open { result.is_shut ≡ false }
@@ -186,7 +186,7 @@ impl<'a, T: Read + Write + OpenStream + Drop, S: DotSet> End<'a, T, S> {
     /// Takes the end of the stream.
     pub fn cut(&mut self, alloc: Global)
         ensures end { StaysEnd self.old.session self.old.ended self.new.session self.new.ended }
-        ensures takes { Takes None self.old self.new }
+        ensures takes { TakesInput None self.old self.new }
     {
         self.take(alloc, Input::End)
     }
@@ -194,7 +194,7 @@ impl<'a, T: Read + Write + OpenStream + Drop, S: DotSet> End<'a, T, S> {
     // A step, unless the end is over. Where there is no memory for what it sends, that isn't sent.
     fn take(&mut self, alloc: Global, input: Input<'_>)
         ensures end { StaysEnd self.old.session self.old.ended self.new.session self.new.ended }
-        ensures takes { Takes (came input.entry) self.old self.new }
+        ensures takes { TakesInput (came input.entry) self.old self.new }
     {
         if self.ended.is_over() {
             return;
@@ -218,7 +218,7 @@ impl<'a, T: Read + Write + OpenStream + Drop, S: DotSet> End<'a, T, S> {
 
     /// What the session came to. One that goes on has failed with `Device`.
     pub fn leave(self) -> Exchanged<S>
-        ensures leaves { (side : Side) (kept : ReplicaValue) → IsEnd side kept self.entry.session self.entry.ended
+        ensures leaves { (side : Side) (kept : ReplicaValue) → IsPairEnd side kept self.entry.session self.entry.ended
             → Leaves side kept (delivery_of result.received result.roster) result.ended }
         ensures over { IsOver self.entry.ended → result.ended ≡ self.entry.ended }
         ensures going { self.entry.ended ≡ Going → result.ended ≡ Failed Device }

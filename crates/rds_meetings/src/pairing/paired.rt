@@ -2,9 +2,9 @@
 ghost use Rattle.std.specs.Prelude.{◌≡◌, IfErr, IfOk, OnOk};
 ghost use Rattle.rds_session.specs.Judging.{roster_among};
 ghost use Rattle.rds_session.specs.Received.{HasChecked, IsChecked, delivery_of};
-ghost use Rattle.rds_files.specs.Files.{IsKeptAt, IsUnread};
+ghost use Rattle.rds_files.specs.Files.{IsKeptAt, IsUnreadFile};
 ghost use Rattle.rds_meetings.specs.Pairing.{file_of};
-ghost use Rattle.rds_meetings.specs.Settling.{IsJoined, RefusesJoin, Settles, SettlesDelta};
+ghost use Rattle.rds_meetings.specs.Settling.{JoinsWith, RefusesJoin, Settles, SettlesDelta};
 
 use crate::settling::{Settled, Settlement, keep_taken, settle_exchanged};
 use rds_dots::DotSet;
@@ -31,7 +31,7 @@ where
     /// told of it. Refuses as `ReplicaFile::open_lasting` does, and `Device` also where the file can't be locked.
     pub fn open(rt: &H, path: &'a str) -> Result<PairedFile<'a, H, S>, Fault>
         ensures read { IfOk result (λ file. IsKeptAt path.now (file_of file)) }
-        ensures fault { IfErr result IsUnread }
+        ensures fault { IfErr result IsUnreadFile }
     {
         match LockedFile::open_if_free(rt, path)? {
             Some(file) => {
@@ -46,7 +46,7 @@ where
     /// while it holds one.
     pub fn open_other(&self, rt: &H, path: &'a str) -> Result<PairedFile<'a, H, S>, Fault>
         ensures read { IfOk result (λ file. IsKeptAt path.now (file_of file)) }
-        ensures fault { IfErr result IsUnread }
+        ensures fault { IfErr result IsUnreadFile }
     {
         match self {
             PairedFile::Locked(_) => PairedFile::open(rt, path),
@@ -134,7 +134,7 @@ fn take_own<S: DotSet>(
     roster: Option<Roster>,
 ) -> Result<(), Fault>
     requires { IsChecked asked.old (delta.now, roster) }
-    ensures ok { OnOk result (IsJoined asked.old (roster_among asked.old.roster roster) delta.now asked.new) }
+    ensures ok { OnOk result (JoinsWith asked.old (roster_among asked.old.roster roster) delta.now asked.new) }
     ensures err { IfErr result (RefusesJoin asked.old asked.old (delta.now, roster)) }
 {
     match roster {

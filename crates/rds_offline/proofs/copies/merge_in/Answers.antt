@@ -5,7 +5,7 @@ use Rattle.rds_names.specs.Roster.{RosterValue}
 use Rattle.rds_state.specs.Fits.{ReplicaValue}
 use Rattle.rds_keep.specs.Changes.{IsChanged}
 use Rattle.rds_files.specs.Files.{KeptFile}
-use Rattle.rds_offline.specs.Merging.{IsLacking}
+use Rattle.rds_offline.specs.Merging.{IsLackingPart}
 use Rattle.rds_offline.proofs.Copied.{unkept_merge}
 use Rattle.rds_offline.proofs.Changed.{is_changed}
 use Rattle.rds_offline.proofs.copies.merge_in.Goals as goal
@@ -28,7 +28,7 @@ keep-requires g c =
 pub returns-clause-counted : goal.returns-clause-counted
 returns-clause-counted g c = record {
   lacking = c.in_ok-lacking.lacking;
-  is_least = subst (λ (v : ReplicaValue). IsLacking c.args.source.now v c.in_ok-lacking.lacking) c.into_parts-replica.ensures.replica c.in_ok-lacking.ensures.lacking;
+  is_least = subst (λ (v : ReplicaValue). IsLackingPart c.args.source.now v c.in_ok-lacking.lacking) c.into_parts-replica.ensures.replica c.in_ok-lacking.ensures.lacking;
   count = c.components-components.ensures;
 }
 

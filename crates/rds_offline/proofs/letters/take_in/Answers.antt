@@ -8,7 +8,7 @@ use Rattle.rds_keep.specs.Changes.{IsChanged}
 use Rattle.rds_files.specs.Files.{KeptFile, ReplacedValue}
 use Rattle.rds_questions.specs.Forks.{TellsFork}
 use Rattle.rds_questions.specs.Receiving.{ReceivedValue}
-use Rattle.rds_offline.specs.Letters.{IsTaken}
+use Rattle.rds_offline.specs.Letters.{IsTakenFrom}
 use Rattle.rds_offline.proofs.Lettered.{is_taken, no_take, unkept_take, untold_take}
 use Rattle.rds_offline.proofs.Changed.{is_changed}
 use Rattle.rds_offline.proofs.Longer.{longer_fits}
@@ -51,7 +51,7 @@ returns-in_err-file-clause-fault g c =
 pub returns-clause-taken : goal.returns-clause-taken
 returns-clause-taken g c =
     let kept = ap (λ (f : ReplacedValue). f.kept) c.in_ok-file.ensures.replaced in
-    subst (IsTaken c.args.received.now c.args.file.kept) (sym kept)
+    subst (IsTakenFrom c.args.received.now c.args.file.kept) (sym kept)
     (is_taken c.args.asked.now c.args.received.now c.args.file.kept _ c.take_response.new.held c.into_parts-replica.ensures.replica c.in_ok-take_response.ensures.takes
     c.in_ok-take_response.ensures.ok c.in_ok-take_response.ensures.roster c.in_ok-take_response.ensures.own)
 

@@ -1,6 +1,6 @@
 use Rattle.std.proofs.Common.{Err, inl, subst}
 use Rattle.std.proofs.lemmas.Result.{err_from_is_err_and}
-use Rattle.rds_offline.specs.Letters.{IsTaken}
+use Rattle.rds_offline.specs.Letters.{IsTakenFrom}
 use Rattle.rds_questions.specs.Receiving.{ReceivedValue}
 use Rattle.rds_questions.specs.Taking.{HeldGives, TakesReceived}
 use Rattle.rds_state.specs.Fits.{ReplicaValue}
@@ -36,4 +36,4 @@ returns-clause-since c =
 pub returns-clause-taken : goal.returns-clause-taken
 returns-clause-taken c =
     let x : ReceivedValue = record { delta = c.received.inside.delta; roster = c.received.inside.roster; certificate = c.received.inside.certificate; tag = c.received.inside.tag } in
-    subst (λ (y : ReceivedValue). IsTaken y c.args.document.now c.take_with.new.self) c.received.view_is (is_taken x c.args.document.now c.take_with.new.self c.in_ok-grew.ensures.taken)
+    subst (λ (y : ReceivedValue). IsTakenFrom y c.args.document.now c.take_with.new.self) c.received.view_is (is_taken x c.args.document.now c.take_with.new.self c.in_ok-grew.ensures.taken)

@@ -8,7 +8,7 @@ use Rattle.rds_tree.specs.Cuts.{covered_leaf, covering, found_at, is_deep, IsCut
 use Rattle.rds_tree.specs.Growing.{Holds}
 use Rattle.rds_tree.specs.Held.{IsGathered}
 use Rattle.rds_tree.specs.Marks.{marks_at}
-use Rattle.rds_tree.specs.Row.{row_at, Adds}
+use Rattle.rds_tree.specs.Row.{leaf_row, AddsRow}
 use Rattle.rds_tree.specs.declared.leaf.Leaf.{Leaf}
 use Rattle.rds_tree.proofs.Holding.{finds_gathered, holds_made, holds_undone, none_cut, shallow_parts}
 use Rattle.rds_tree.proofs.MarkEdits.{covered_marks, going_made}
@@ -37,9 +37,9 @@ cut_covered-requires g c =
     let begun : IsGathered (found p.path) [] c.place.new.dots.items =
     subst (λ q. IsGathered (found q) [] c.place.new.dots.items) c.keys.ensures.keys
     (subst (λ (ds : List Dot). IsGathered (found c.keys.result.now) ds c.place.new.dots.items) c.new-dots.ensures.items c.in_ok-place.ensures.gathered) in
-    let adds : Adds tree (row_at p.path (record { kind = p.kind; value = p.value; dot = new })) mid =
-    subst (λ q. Adds tree (row_at q (record { kind = p.kind; value = p.value; dot = new })) mid) c.keys.ensures.keys
-    (subst (λ (v : Scalar). Adds tree (row_at c.keys.result.now (record { kind = p.kind; value = v; dot = new })) mid) c.in_ok-copy.ensures.ok c.in_ok-place.ensures.ok) in
+    let adds : AddsRow tree (leaf_row p.path (record { kind = p.kind; value = p.value; dot = new })) mid =
+    subst (λ q. AddsRow tree (leaf_row q (record { kind = p.kind; value = p.value; dot = new })) mid) c.keys.ensures.keys
+    (subst (λ (v : Scalar). AddsRow tree (leaf_row c.keys.result.now (record { kind = p.kind; value = v; dot = new })) mid) c.in_ok-copy.ensures.ok c.in_ok-place.ensures.ok) in
     record {
       none = λ empty.
           let none : IsGathered (found p.path) [] [] = subst (λ (ds : List Dot). IsGathered (found p.path) [] ds) (sym c.deref-in-Ok.ensures.value ∙ empty) begun in
@@ -55,9 +55,9 @@ returns-in-Ok-clause-holds g c =
     let tree = c.args.tree.now in
     let mid = c.place.new.self in
     let new = c.in_ok-dot.dot in
-    let adds : Adds tree (row_at p.path (record { kind = p.kind; value = p.value; dot = new })) mid =
-    subst (λ q. Adds tree (row_at q (record { kind = p.kind; value = p.value; dot = new })) mid) c.keys.ensures.keys
-    (subst (λ (v : Scalar). Adds tree (row_at c.keys.result.now (record { kind = p.kind; value = v; dot = new })) mid) c.in_ok-copy.ensures.ok c.in_ok-place.ensures.ok) in
+    let adds : AddsRow tree (leaf_row p.path (record { kind = p.kind; value = p.value; dot = new })) mid =
+    subst (λ q. AddsRow tree (leaf_row q (record { kind = p.kind; value = p.value; dot = new })) mid) c.keys.ensures.keys
+    (subst (λ (v : Scalar). AddsRow tree (leaf_row c.keys.result.now (record { kind = p.kind; value = v; dot = new })) mid) c.in_ok-copy.ensures.ok c.in_ok-place.ensures.ok) in
     holds_made command p c.requires.parts old.state old.own new c.in_ok-dot.ensures.unseen c.edit_found.new.self.state tree mid c.cut_covered.new.tree c.in_ok-dot.ensures.exact.1 c.requires.holds adds
     (subst (λ q. IsCut (covering command (Some new)) (is_deep command) q mid c.cut_covered.new.tree) c.keys-in-Ok.ensures.keys c.cut_covered.ensures) c.in-Ok.ensures.edited.joined
 
@@ -82,8 +82,8 @@ returns-clause-holds g c =
     let mid = c.place.new.self in
     let new = c.in_ok-dot.dot in
     let leaf : Leaf = record { kind = c.args.placed.kind; value = c.args.placed.value.now; dot = new } in
-    let adds : Adds tree (row_at c.keys-in-Err.result.now leaf) mid =
-    subst (λ q. Adds tree (row_at q leaf) mid) (c.keys.ensures.keys ∙ sym c.keys-in-Err.ensures.keys)
-    (subst (λ (v : Scalar). Adds tree (row_at c.keys.result.now (record { kind = c.args.placed.kind; value = v; dot = new })) mid) c.in_ok-copy.ensures.ok c.in_ok-place.ensures.ok) in
+    let adds : AddsRow tree (leaf_row c.keys-in-Err.result.now leaf) mid =
+    subst (λ q. AddsRow tree (leaf_row q leaf) mid) (c.keys.ensures.keys ∙ sym c.keys-in-Err.ensures.keys)
+    (subst (λ (v : Scalar). AddsRow tree (leaf_row c.keys.result.now (record { kind = c.args.placed.kind; value = v; dot = new })) mid) c.in_ok-copy.ensures.ok c.in_ok-place.ensures.ok) in
     subst (λ (v : ReplicaValue). Holds (live_rows v.state.lives) c.cut.new.self) (sym c.in-Err.ensures.err)
     (holds_undone old.state.lives c.keys-in-Err.result.now leaf tree mid c.cut.new.self c.in_ok-dot.ensures.unseen c.requires.holds adds c.cut.ensures)

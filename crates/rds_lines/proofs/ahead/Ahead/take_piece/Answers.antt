@@ -1,5 +1,5 @@
 use Rattle.std.proofs.Common.{◌∙◌, ◌++◌, ap, subst, arith, List, ℕ}
-use Rattle.rds_lines.specs.Ahead.{IsHeld}
+use Rattle.rds_lines.specs.Ahead.{IsLineHeld}
 use Rattle.rds_lines.specs.Lines.{after_line, until_newline}
 use Rattle.rds_lines.proofs.Pieces.{rest_stands, rest_within_slice}
 use Rattle.rds_lines.proofs.ahead.Ahead.take_piece.Goals as goal
@@ -15,4 +15,4 @@ returns-clause-rest c =
 pub returns-clause-line : goal.returns-clause-line
 returns-clause-line c = λ taken held.
     let line = c.split_line.ensures.line ∙ ap until_newline c.self.view_is in
-    subst (λ (l : List ℕ). IsHeld (taken ++ l) c.extended-longer.result) line (c.extended-longer.ensures taken held)
+    subst (λ (l : List ℕ). IsLineHeld (taken ++ l) c.extended-longer.result) line (c.extended-longer.ensures taken held)

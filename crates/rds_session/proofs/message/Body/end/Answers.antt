@@ -4,7 +4,7 @@ use Rattle.rds_codec.specs.Decoding.{ReadsAll}
 use Rattle.std.proofs.lemmas.Result.{err_from_is_err_and}
 use Rattle.rds_session.proofs.Began.{greeting_said, parting_said, bye_said, mark_said, hash_said, brief_said, fails_so, refused_said, hello_said, digest_said, delta_said}
 use Rattle.rds_answers.specs.Hashes.{hash_in}
-use Rattle.rds_session.specs.Marked.{mark_in}
+use Rattle.rds_session.specs.Marked.{mark_read}
 use Rattle.rds_session.proofs.message.Body.end.Goals as goal
 
 pub returns-in-Greeting : goal.returns-in-Greeting
@@ -52,7 +52,7 @@ returns-in_err-end-in-Delta g c =
 pub returns-in_ok-read_mark-in-Mark : goal.returns-in_ok-read_mark-in-Mark
 returns-in_ok-read_mark-in-Mark g c = λ expected came holds within.
     (let h = rw c.in-Mark.is at holds in
-    let read = ap mark_in (sym c.deref-in-Mark.ensures.value) ∙ c.in_ok-read_mark-in-Mark.ensures in
+    let read = ap mark_read (sym c.deref-in-Mark.ensures.value) ∙ c.in_ok-read_mark-in-Mark.ensures in
     mark_said expected came c.in-Mark.bytes.items h.0 (Ok c.in_ok-read_mark-in-Mark.field-0) h.1 h.2 h.3 read)
 
 pub returns-in_err-read_mark-in-Mark : goal.returns-in_err-read_mark-in-Mark
@@ -61,8 +61,8 @@ returns-in_err-read_mark-in-Mark g c =
     let e = c.in_err-read_mark-in-Mark.field-0.0 in
     rw (p.1, p.2) (λ expected came holds within.
     (let h = rw c.in-Mark.is at holds in
-    let read = ap mark_in (sym c.deref-in-Mark.ensures.value) ∙ c.in_err-read_mark-in-Mark.ensures in
-    mark_said expected came c.in-Mark.bytes.items h.0 (Err e) h.1 h.2 h.3 (fails_so e (mark_in c.in-Mark.bytes.items) read)))
+    let read = ap mark_read (sym c.deref-in-Mark.ensures.value) ∙ c.in_err-read_mark-in-Mark.ensures in
+    mark_said expected came c.in-Mark.bytes.items h.0 (Err e) h.1 h.2 h.3 (fails_so e (mark_read c.in-Mark.bytes.items) read)))
 
 pub returns-in_ok-read_hash-in-Hash : goal.returns-in_ok-read_hash-in-Hash
 returns-in_ok-read_hash-in-Hash g c = λ expected came holds within.

@@ -1,5 +1,5 @@
 use Rattle.std.proofs.Common.{◌∙◌, ap, not, sym}
-use Rattle.rds_tree.specs.Row.{is_full}
+use Rattle.rds_tree.specs.Row.{is_filled}
 use Rattle.rds_tree.proofs.Cutting.{full_of}
 use Rattle.rds_tree.proofs.HeldLeaves.{full-leaves, regs_full}
 use Rattle.rds_tree.proofs.Rows.{then_empty}
@@ -9,11 +9,11 @@ pub returns-then-is_empty : goal.returns-then-is_empty
 returns-then-is_empty c =
     let regs = c.self.inside.regs in
     let elems = c.self.inside.elems in
-    then_empty c.is_empty.result _ (is_full regs) (is_full elems) c.is_empty.ensures.empty c.if-is_empty.true c.is_empty-then-is_empty.ensures.empty
-    ∙ ap not (sym (full-leaves regs elems c.is_empty.ensures.held c.is_empty-then-is_empty.ensures.held) ∙ ap is_full c.self.view_is)
+    then_empty c.is_empty.result _ (is_filled regs) (is_filled elems) c.is_empty.ensures.empty c.if-is_empty.true c.is_empty-then-is_empty.ensures.empty
+    ∙ ap not (sym (full-leaves regs elems c.is_empty.ensures.held c.is_empty-then-is_empty.ensures.held) ∙ ap is_filled c.self.view_is)
 
 pub returns-else-is_empty : goal.returns-else-is_empty
 returns-else-is_empty c =
     let regs = c.self.inside.regs in
     c.if-is_empty.false
-    ∙ ap not (sym (regs_full regs c.self.inside.elems c.is_empty.ensures.held (full_of regs c.is_empty.result c.is_empty.ensures.empty c.if-is_empty.false)) ∙ ap is_full c.self.view_is)
+    ∙ ap not (sym (regs_full regs c.self.inside.elems c.is_empty.ensures.held (full_of regs c.is_empty.result c.is_empty.ensures.empty c.if-is_empty.false)) ∙ ap is_filled c.self.view_is)

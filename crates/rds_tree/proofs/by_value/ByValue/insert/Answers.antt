@@ -3,7 +3,7 @@ use Rattle.std.specs.BTreeMap.{insert_entry}
 use Rattle.std.specs.Map.{set_value}
 use Rattle.rds_names.specs.Orders.{scalar_cmp}
 use Rattle.rds_tree.specs.Held.{any_held, at_value}
-use Rattle.rds_tree.specs.Row.{is_full, are_full}
+use Rattle.rds_tree.specs.Row.{is_filled, are_full}
 use Rattle.rds_tree.proofs.Adding.{on_ok, on_err}
 use Rattle.rds_tree.proofs.Grouped.{any-grown, any-inserted, full-inserted, full-pushed, set_value-same}
 use Rattle.rds_names.proofs.Orders.{scalars_exact}
@@ -30,7 +30,7 @@ pub invariant_of-self-2 : goal.invariant_of-self-2
 invariant_of-self-2 c =
     let held = c.self.inside.values.entries in
     let grown : c.insert.new.self.entries ≡ insert_entry scalar_cmp held c.args.value c.in_ok-dots.dots = c.in_ok-insert.ensures.entries ∙ ap (λ m. insert_entry scalar_cmp m.entries c.args.value c.in_ok-dots.dots) c.get_mut.follows.holds-at-none in
-    ap are_full grown ∙ full-inserted scalar_cmp c.args.value c.in_ok-dots.dots held (ap is_full c.in_ok-dots.ensures.ok) c.self.invariant
+    ap are_full grown ∙ full-inserted scalar_cmp c.args.value c.in_ok-dots.dots held (ap is_filled c.in_ok-dots.ensures.ok) c.self.invariant
 
 pub returns-clause-ok : goal.returns-clause-ok
 returns-clause-ok c t =

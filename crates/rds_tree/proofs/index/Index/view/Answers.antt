@@ -2,7 +2,7 @@ use Rattle.std.proofs.Common.{◌∙◌, ap}
 use Rattle.rds_life.specs.Life.{live_rows}
 use Rattle.rds_tree.specs.Document.{document, entries_in, sums_of}
 use Rattle.rds_tree.specs.Row.{placed_all}
-use Rattle.rds_tree.specs.View.{below_path, counters_at, entries_view, shown_to, view_of}
+use Rattle.rds_tree.specs.View.{below_path, counters_shown, entries_view, shown_to, view_of}
 use Rattle.rds_tree.proofs.Whole.{shows_whole}
 use Rattle.rds_tree.proofs.index.Index.view.Goals as goal
 
@@ -12,7 +12,7 @@ returns-clause-shown g c =
     let path = c.args.path.now in
     let inside = c.self.inside in
     let state = inside.replica.state in
-    let counters = c.in_ok-counters.ensures.ok ∙ ap (λ counts. counters_at path (sums_of counts)) (c.counts.ensures ∙ ap (λ s. s.counts) c.state.ensures.state) in
+    let counters = c.in_ok-counters.ensures.ok ∙ ap (λ counts. counters_shown path (sums_of counts)) (c.counts.ensures ∙ ap (λ s. s.counts) c.state.ensures.state) in
     c.in_ok-view.ensures.ok
     ∙ ap (λ keys. shown_to 8 c.in_ok-counters.counters (below_path keys (placed_all inside.tree))) c.keys.ensures.keys
     ∙ shows_whole c.in_ok-counters.counters path (live_rows state.lives) inside.tree c.self.invariant.0

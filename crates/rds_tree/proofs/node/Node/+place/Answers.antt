@@ -2,7 +2,7 @@ use Rattle.std.proofs.Common.{◌≡◌, sym, ◌∙◌, ap, subst, refl}
 use Rattle.std.specs.BTreeMap.{insert_entry}
 use Rattle.rds_tree.specs.Cuts.{among_leaves, covered_leaf, found_at, is_deep}
 use Rattle.rds_tree.specs.Document.{key_cmp}
-use Rattle.rds_tree.specs.Row.{rows_of, row_at, Adds, is_full, are_full}
+use Rattle.rds_tree.specs.Row.{rows_in_node, leaf_row, AddsRow, is_filled, are_full}
 use Rattle.rds_tree.proofs.Adding.{adds_leaf_at, adds_below, adds_child_at, grown_full, on_ok, on_err, written_back}
 use Rattle.rds_tree.proofs.Gathering.{gathers_none, gathers_same, gathers_same_if}
 use Rattle.rds_tree.proofs.Grouped.{full-inserted}
@@ -24,9 +24,9 @@ returns-in-Some-get_mut-clause-gathered t c =
 
 pub returns-in-Some-get_mut-clause-ok : goal.returns-in-Some-get_mut-clause-ok
 returns-in-Some-get_mut-clause-ok t c =
-    on_ok c.place.result (λ adds. subst (λ path. Adds c.args.self.now (row_at path c.args.leaf) (rows_of c.self.inside.leaves (c.get_mut.follows.lender c.place.new.self).entries)) (sym c.in-Some.ensures.cases.0)
+    on_ok c.place.result (λ adds. subst (λ path. AddsRow c.args.self.now (leaf_row path c.args.leaf) (rows_in_node c.self.inside.leaves (c.get_mut.follows.lender c.place.new.self).entries)) (sym c.in-Some.ensures.cases.0)
     (adds_below _ _ c.self.inside.leaves c.self.inside.children.entries c.in-Some.key.now c.in-Some.rest.now c.args.leaf _ _ c.self.view_is
-    (ap (rows_of c.self.inside.leaves) (sym (c.get_mut.follows.holds c.place.new.self).0)) (sym c.in-Some-get_mut.ensures.value) adds)) c.place.ensures.ok
+    (ap (rows_in_node c.self.inside.leaves) (sym (c.get_mut.follows.holds c.place.new.self).0)) (sym c.in-Some-get_mut.ensures.value) adds)) c.place.ensures.ok
 
 pub returns-in-Some-get_mut-clause-err : goal.returns-in-Some-get_mut-clause-err
 returns-in-Some-get_mut-clause-err t c =
@@ -36,7 +36,7 @@ pub invariant_of-self-in-Some : goal.invariant_of-self-in-Some
 invariant_of-self-in-Some t c =
     let e : c.insert-in-Some.new.self.entries ≡ insert_entry key_cmp c.self.inside.children.entries c.in_ok-copy-in-Some.field-0 c.in_ok-child-in-Some.child =
     c.in_ok-insert-in-Some.ensures.entries ∙ ap (λ m. insert_entry key_cmp m.entries c.in_ok-copy-in-Some.field-0 c.in_ok-child-in-Some.child) c.get_mut.follows.holds-at-none in
-    ap are_full e ∙ full-inserted key_cmp c.in_ok-copy-in-Some.field-0 c.in_ok-child-in-Some.child c.self.inside.children.entries (ap is_full c.in_ok-child-in-Some.ensures.ok) c.self.invariant
+    ap are_full e ∙ full-inserted key_cmp c.in_ok-copy-in-Some.field-0 c.in_ok-child-in-Some.child c.self.inside.children.entries (ap is_filled c.in_ok-child-in-Some.ensures.ok) c.self.invariant
 
 pub returns-in_ok-gather_covered-in-None-clause-gathered : goal.returns-in_ok-gather_covered-in-None-clause-gathered
 returns-in_ok-gather_covered-in-None-clause-gathered t c =
