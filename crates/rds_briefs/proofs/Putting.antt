@@ -11,7 +11,12 @@ pub record IsPutting (old now : Text) (rest whole : List ℕ) : Type 0 where
   pub joins : said ++ rest ≡ whole
 
 pub put_begins : (x : Text) (whole : List ℕ) → IsPutting x x whole whole
-put_begins x whole = record { said = []; extends = λ t h. subst (HoldsBriefText x) (sym (append-nil t)) h; joins = refl }
+put_begins x whole = record {
+  said = [];
+  extends = λ t h. subst (HoldsBriefText x) (sym (append-nil t)) h;
+  joins =
+      refl;
+}
 
 pub extends_then : (a b c : Text) (x y : List ℕ) → Extends a b x → Extends b c y → Extends a c (x ++ y)
 extends_then a b c x y p q t h = subst (HoldsBriefText c) (append_assoc t x y) (q (t ++ x) (p t h))

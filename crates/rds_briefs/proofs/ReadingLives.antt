@@ -57,7 +57,8 @@ module _ (f : Lives) (replica p : ℕ) where
   -- so many more, of which the lives are known
   pub lives_more : (q j m : ℕ) (old now new : Dots) (y : Lives) → q ≡ p + j → HasLives f replica p j old now → HasLives y replica q m now new → ((i : ℕ) → q ≤ i → i < q + m → y i ≡ f i) → HasLives f replica p (j + m) old new
   lives_more q j m old now new y at before then same d =
-      let there : is_in_stretch replica q m d ≡ is_in_stretch replica (p + j) m d = ap (λ n. is_in_stretch replica n m d) at in
+      let there : is_in_stretch replica q m d ≡ is_in_stretch replica (p + j) m d = ap (λ n. is_in_stretch replica n
+      m d) at in
       then d
       ∙ ap (λ b. b || (is_in_stretch replica q m d && y d.seq)) (before d)
       ∙ both (set.contains old d) (is_in_stretch replica p j d) (is_in_stretch replica q m d) (f d.seq) (y d.seq) (λ h. same d.seq (among_from d.replica replica d.seq q m h) (among_to d.replica replica d.seq q m h))

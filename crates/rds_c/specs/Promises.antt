@@ -73,7 +73,8 @@ SlotIsMade (Err fault) slot = ⊥
 
 -- an empty replica of the roster that a line has
 abbrev pub IsNewReplica : List ℕ → ℕ → ReplicaValue → Type 0
-IsNewReplica line own v = (roster : RosterValue) × (line_of line ≡ Ok (Roster roster)) × (first_replica (Ok roster) own ≡ Ok v)
+IsNewReplica line own v = (roster : RosterValue) × (line_of line ≡ Ok (Roster roster))
+    × (first_replica (Ok roster) own ≡ Ok v)
 
 -- ---- files
 

@@ -56,7 +56,8 @@ compares_files path other first second lines a b root p q first_read second_read
 -- what stands in what a file held
 pub stands_in : (held : ReplicaValue) (state : StateValue) (kept : ReplicaValue) (command : Command) (same : Bool) → (IsTrue same ↔ StandsThere state command) → same ≡ true → state ≡ kept.state → kept ≡ held → StandsThere held.state command
 stands_in held state kept command same exact is state_is kept_is =
-    subst (λ (s : StateValue). StandsThere s command) (state_is ∙ ap (λ (r : ReplicaValue). r.state) kept_is) (exact.0 is)
+    subst (λ (s : StateValue). StandsThere s command) (state_is ∙ ap (λ (r : ReplicaValue). r.state) kept_is)
+    (exact.0 is)
 
 -- what a second read finds in the input, of which the first took nothing
 pub read_later : (held later : Option (List ℕ)) (question answer text : List ℕ) (piped : Bool) → (piped && is_piped answer) ≡ false → (piped ≡ false → later ≡ held) → IsReadOfInput later answer text

@@ -65,7 +65,8 @@ edit_line_back edits.Dec ds line p h = count_spelled _ ds (λ at. commands.Dec a
 
 -- a line of a word and a replica
 replica_spelled : (word : List ℕ) (ds : List Data) (made : List ℕ → Line) → ((n : List ℕ) → line_data (made n) ≡ line_of_word word (string n ∷ [])) → ((n : List ℕ) → IsName n → IsLine (made n))
-    → (line : Line) → (replica_from (line_of_word word ds) >>= λ name. Ok (made name)) ≡ Ok line → IsSpelled word ds line
+    → (line : Line) → (replica_from (line_of_word word ds) >>= λ name. Ok (made name)) ≡ Ok line
+    → IsSpelled word ds line
 replica_spelled word ds made spelled fits line h =
     let a = bound (replica_from (line_of_word word ds)) (λ name. Ok (made name)) line h in
     let r = replica_back word ds a.0 a.1 in
@@ -160,7 +161,8 @@ edit_from_text : (o : Option Data) (text : List ℕ) (e : Command) → read text
 edit_from_text None text e r h = no_value BadLine e h
 edit_from_text (Some d) text e r h = let got = edit_from_word (text_member 0 d) d e refl (read_proper text d r) h in (ap Some got.0, got.1)
 
-pub edit_understood : (text : List ℕ) (e : Command) → edit_of text ≡ Ok e → (read text ≡ Some (edit_data e)) × FitsEdit e
+pub edit_understood : (text : List ℕ) (e : Command) → edit_of text ≡ Ok e → (read text ≡ Some (edit_data e))
+    × FitsEdit e
 edit_understood text e h = edit_from_text (read text) text e refl h
 
 -- ---- no word

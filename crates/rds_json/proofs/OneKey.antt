@@ -20,7 +20,8 @@ values_at-only key (r ∷ rows) =
       | false ↦ λ _. values_at-only key rows
     ] refl
 
-pub sum_at-only : (key : List ℕ) (rows : List (List ℕ × ℤ)) → sum_standing key (only_rows key rows) ≡ sum_standing key rows
+pub sum_at-only : (key : List ℕ) (rows : List (List ℕ × ℤ)) → sum_standing key (only_rows key rows) ≡ sum_standing
+    key rows
 sum_at-only key [] = refl
 sum_at-only key (r ∷ rows) =
     ap (λ b. sum_standing key (cond b (r ∷ only_rows key rows) (only_rows key rows))) (sym (same_test r.0 key))

@@ -1,7 +1,8 @@
 -- The lines of bytes that have their newline.
 use Rattle.std.proofs.Common.{◌≡◌, ◌⊎◌, ℕ, ◌<◌, Bool, true, false, cond, eqb, List, [], ◌∷◌, ◌++◌, length, refl, sym, ap, ◌∙◌, append_assoc, arith, inl, inr}
 use Rattle.std.proofs.lemmas.Bool.{eqb-true}
-use Rattle.rds_lines.specs.Lines.{IsOneLine, after_line, ended_lines, until_newline, lines_in, line_with_byte, with_byte_in}
+use Rattle.rds_lines.specs.Lines.{IsOneLine, after_line, ended_lines, until_newline, lines_in, line_with_byte}
+use Rattle.rds_lines.specs.Lines.{with_byte_in}
 
 -- the first line, and the lines after it
 first_at : (t : Bool) (b : ℕ) (bytes : List ℕ) → (0 < length bytes → lines_in bytes ≡ until_newline bytes ∷ lines_in (after_line bytes))

@@ -171,7 +171,8 @@ walks_kept (Some xs) (Some ys) (Some zs) line begun w k = subst (λ (l : List �
 
 -- at the end of the input
 pub walks_end : (a b : Option (List ℕ)) (line : Result (Vec ℕ) Fault) (text : Result (String Global) Fault) (bytes : List ℕ) → Walks a (prepend_known bytes b) line true → bytes ≡ [] → IsAtEnd b
-    → ((taken : List ℕ) → IsLineHeld taken line → ReadsText taken text) → TakesLine a (prepend_known bytes b) (Some text)
+    → ((taken : List ℕ) → IsLineHeld taken line → ReadsText taken text)
+    → TakesLine a (prepend_known bytes b) (Some text)
 walks_end None b line text bytes w none e reads = tt
 walks_end (Some xs) None line text bytes w none e reads = absurd w
 walks_end (Some xs) (Some ys) line text bytes w none e reads =

@@ -134,7 +134,8 @@ line_of_bytes bytes = if is_text_line bytes then line_of bytes else Err BadLine
 
 -- the answer that is due, or want of memory, which changes nothing
 abbrev pub MeetsBytes : Option Group → List ℕ → Reply → Option Group → Type 0
-MeetsBytes now bytes answer next = LineIsRefused now Memory answer next ⊎ MeetsRead now (line_of_bytes bytes) answer next
+MeetsBytes now bytes answer next = LineIsRefused now Memory answer next
+    ⊎ MeetsRead now (line_of_bytes bytes) answer next
 
 -- one line's answer, and what is written for the lines after it
 pub record MeetsFirst (now : Option Group) (bytes : List ℕ) (After : Option Group → List ℕ → Bool → Type 0)

@@ -15,7 +15,8 @@ conflict_example : conflict_line (record { path = codes "a" ∷ codes "b" ∷ []
 unfolding serde_json_on_literals digits
 conflict_example = refl
 
-set_example : line_of_edit (Set (codes "a" ∷ codes "b" ∷ []) (scalars.Text (codes "x"))) ≡ codes "[\"set\",\"a/b\",\"x\"]"
+set_example : line_of_edit (Set (codes "a" ∷ codes "b" ∷ []) (scalars.Text (codes "x"))) ≡ codes
+    "[\"set\",\"a/b\",\"x\"]"
 unfolding serde_json_on_literals digits
 set_example = refl
 

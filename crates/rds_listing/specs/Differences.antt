@@ -91,7 +91,8 @@ counter_sum_text (Some sum) = signed_decimal sum
 -- what both counters of a key stand at
 abbrev pub counter_line : List ℕ → Option ℤ → Option ℤ → List ℕ
 counter_line key first second =
-    codes "{\"path\":" ++ (compact_text (string key) ++ (codes ",\"kind\":\"counter\",\"first\":" ++ (counter_sum_text first
+    codes "{\"path\":" ++ (compact_text (string key)
+    ++ (codes ",\"kind\":\"counter\",\"first\":" ++ (counter_sum_text first
     ++ (codes ",\"second\":" ++ (counter_sum_text second ++ codes "}")))))
 
 -- those whose keys come before a key, and those from the first on whose key doesn't

@@ -1,6 +1,15 @@
 //! The values of registers and sets, each where it stands.
 ghost use Rattle.std.specs.Prelude.{◌≡◌, ◌++◌, IfErr, IfOk, OnOk, map};
-ghost use Rattle.rds_listing.specs.Differences.{before, behind, from, begins_with_leaf, leaf_at, leaf_cmp, leaves, leaves_standing};
+ghost use Rattle.rds_listing.specs.Differences.{
+  before,
+  behind,
+  from,
+  begins_with_leaf,
+  leaf_at,
+  leaf_cmp,
+  leaves,
+  leaves_standing,
+};
 ghost use Rattle.rds_names.specs.declared.fault.Fault.TheVariants.{Memory};
 
 use crate::standings::Standing;

@@ -24,7 +24,8 @@ pub record MergesFile (path from : List ℕ) (file : ReplacedValue) (components 
 -- why what a file holds doesn't take all that a replica has seen: a take of it is refused, or the new one can't be kept
 abbrev pub RefusesMergeIn : ReplicaValue → ReplicaValue → Fault → Type 0
 RefusesMergeIn source before fault =
-    RefusesMerge source before fault ⊎ ((after : ReplicaValue) × IsMergedFrom source before after × IsUnkept after fault)
+    RefusesMerge source before fault ⊎ ((after : ReplicaValue) × IsMergedFrom source before after
+    × IsUnkept after fault)
 
 -- the same, of something that two files may hold
 pub record RefusesHeldMerge (fault : Fault) : Type 0 where

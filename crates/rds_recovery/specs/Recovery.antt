@@ -69,7 +69,8 @@ pub record HasAcknowledged (first : ReplicaValue) (appends : List Append) (found
 -- what is read at the end
 abbrev pub NoneIsLost : List ℕ → List Append → Type 0
 NoneIsLost file appends =
-    (first found : ReplicaValue) → FileHolds file first → AreAppends file appends → FileHolds (last_left file appends) found
+    (first found : ReplicaValue) → FileHolds file first → AreAppends file appends
+    → FileHolds (last_left file appends) found
     → HasAcknowledged first appends found
 
 -- ---- one change that was broken off

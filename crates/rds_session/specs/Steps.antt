@@ -54,7 +54,8 @@ pub record RanOut (side : Side) (kept : ReplicaValue) (heard : Heard) (input : O
   pub last_word : IsLastWord sent
 
 abbrev pub Continues : Side → ReplicaValue → Heard → Option (List ℕ) → Standing → List ℕ → Type 0
-Continues side kept heard input new sent = FollowsStream side kept heard input new sent ⊎ RanOut side kept heard input new sent
+Continues side kept heard input new sent = FollowsStream side kept heard input new sent
+    ⊎ RanOut side kept heard input new sent
 
 -- the session has ended
 abbrev pub IsOver : Ended → Type 0
@@ -69,7 +70,8 @@ IsNoDevice _ = Unit {0}
 -- ---- the parts of a step
 
 -- a standing became the next one, and what it sends was added; or memory ran out, and what was received stayed
-abbrev pub TakesStep : {T : Type 0} → Standing → List ℕ → Standing → List ℕ → Result T Fault → (Standing → Sent) → Type 0
+abbrev pub TakesStep : {T : Type 0} → Standing → List ℕ → Standing → List ℕ → Result T Fault → (Standing → Sent)
+    → Type 0
 TakesStep old sent new more result go = MatchResult result
     (λ _. (new ≡ (go old).0) × (more ≡ sent ++ (go old).1))
     (λ e. (e ≡ Memory) × (new.received ≡ old.received))
@@ -107,7 +109,8 @@ StepTakesMemory old input = TakesNoMemory old input → ⊥
 abbrev pub Works : {T : Type 0} → Standing → List ℕ → Option (List ℕ) → Standing → List ℕ → Result T Fault → Type 0
 Works old sent input new more result = MatchResult result
     (λ _. (new ≡ (then_more (after_opening old) (after_input input)).0) × (more ≡ sent ++ (then_more (after_opening old) (after_input input)).1))
-    (λ e. (e ≡ Memory) × ReceivedOnTheWay (after_opening old).0 (piece_of input) new.received × StepTakesMemory old input)
+    (λ e. (e ≡ Memory) × ReceivedOnTheWay (after_opening old).0 (piece_of input) new.received
+    × StepTakesMemory old input)
 
 abbrev pub RunsOut : Standing → Option (List ℕ) → Standing → List ℕ → Type 0
 RunsOut old input new sent =

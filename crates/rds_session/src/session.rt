@@ -94,7 +94,14 @@ impl<'a, S: DotSet> Session<'a, S> {
     ghost use Rattle.rds_session.specs.Chunks.{start};
     ghost use Rattle.rds_session.specs.Contents.{expected_of};
     ghost use Rattle.rds_session.specs.Judging.{StopsByNoDevice, saying_of};
-    ghost use Rattle.rds_session.specs.Received.{Brings, HasChecked, IsDoneBy, IsLongerIfThere, delta_of, roster_received};
+    ghost use Rattle.rds_session.specs.Received.{
+      Brings,
+      HasChecked,
+      IsDoneBy,
+      IsLongerIfThere,
+      delta_of,
+      roster_received,
+    };
     ghost use Rattle.rds_session.specs.declared.talk.Stop.TheVariants.{Refused};
     ghost use Rattle.rds_session.specs.Session.{failure, after_said, refuses, after_verdict, message_comes, after_opening, after_step, cut_off, Heard, Nothing};
     ghost use Rattle.rds_session.specs.Steps.{came, TakesNoMemory, Continues, TakesStep, HasStanding, IsLastWord, IsNoDevice, IsOver, Ran, Runs, Steps, Works};

@@ -13,7 +13,8 @@ use Rattle.std.proofs.lemmas.List.Folds.{list_any-append}
 use Rattle.rds_names.specs.Conditions.{equal_of}
 use Rattle.rds_tree.specs.declared.leaf.Leaf.{Leaf}
 use Rattle.rds_tree.specs.Document.{key_cmp}
-use Rattle.rds_tree.specs.Row.{Row, under, at_end, rows_in_children, rows_in_node, is_filled, are_full, leaf_row, AddsRow, AddsLeaf}
+use Rattle.rds_tree.specs.Row.{Row, under, at_end, rows_in_children, rows_in_node, is_filled, are_full, leaf_row}
+use Rattle.rds_tree.specs.Row.{AddsRow, AddsLeaf}
 use Rattle.rds_tree.proofs.Grouped.{found_full, full-set_value, set_value-same}
 
 -- ---- lists
@@ -31,7 +32,8 @@ any-map : {A B : Type 0} (t : B → Bool) (f : A → B) (xs : List A) → list_a
 any-map t f [] = refl
 any-map t f (x ∷ xs) = ap (λ b. t (f x) || b) (any-map t f xs)
 
-any-below : (t : Row → Bool) (cs : List (List ℕ × List Row)) → list_any t (rows_in_children cs) ≡ list_any (below_passes t) cs
+any-below : (t : Row → Bool) (cs : List (List ℕ × List Row)) → list_any t (rows_in_children cs) ≡ list_any
+    (below_passes t) cs
 any-below t [] = refl
 any-below t (c ∷ cs) = list_any-append t (map (under c.0) c.1) (rows_in_children cs) ∙ ap (λ b. b || list_any t (rows_in_children cs)) (any-map t (under c.0) c.1) ∙ ap (λ b. below_passes t c || b) (any-below t cs)
 
@@ -124,7 +126,8 @@ no_keys (k ∷ path) h = absurd (omega arith)
 
 pub adds_leaf_at : (old new : List Row) (leaves ls : List Leaf) (cs : List (List ℕ × List Row)) (path : List (List ℕ)) (l : Leaf) → length path ≡ 0 → rows_in_node leaves cs ≡ old → AddsLeaf leaves l ls → rows_in_node ls cs ≡ new → AddsRow old (leaf_row path l) new
 adds_leaf_at old new leaves ls cs path l none is grows was =
-    subst (λ p. AddsRow old (leaf_row p l) new) (sym (no_keys path none)) (adds_leaf old new leaves ls cs l is grows was)
+    subst (λ p. AddsRow old (leaf_row p l) new) (sym (no_keys path none)) (adds_leaf old new leaves ls cs l is grows
+    was)
 
 pub adds_child_at : (whole grown : List Row) (leaves : List Leaf) (cs ds : List (List ℕ × List Row)) (path : List (List ℕ)) (k copied : List ℕ) (rest : List (List ℕ)) (l : Leaf) (rows : List Row) → path ≡ k ∷ rest → copied ≡ k
     → rows_in_node leaves cs ≡ whole → ds ≡ insert_entry key_cmp cs copied rows → rows_in_node leaves ds ≡ grown → None ≡ lookup (at_key k) cs → rows ≡ leaf_row rest l ∷ [] → AddsRow whole (leaf_row path l) grown

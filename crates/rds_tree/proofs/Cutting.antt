@@ -47,7 +47,8 @@ none_stays : (picks : Leaf → Bool) (t : Row → Bool) (rows : List Row) → li
 none_stays picks t [] = refl
 none_stays picks t (r ∷ rows) = ap (λ b. (t r && not b) || list_any (stays picks true [] t) rows) (goes_all picks r.path r.leaf) ∙ ap (λ b. b || list_any (stays picks true [] t) rows) (and-false (t r)) ∙ none_stays picks t rows
 
-pub empty_rows : (leaves : List Leaf) (cs : List (List ℕ × List Row)) → leaves ≡ [] → cs ≡ [] → rows_in_node leaves cs ≡ []
+pub empty_rows : (leaves : List Leaf) (cs : List (List ℕ × List Row)) → leaves ≡ [] → cs ≡ []
+    → rows_in_node leaves cs ≡ []
 empty_rows leaves cs l c = ap (λ ls. rows_in_node ls cs) l ∙ ap (λ ds. rows_in_node [] ds) c
 
 -- nothing is left where all goes

@@ -152,7 +152,8 @@ module _ (a b : Lived) where
       kept_arrive : (t : Row → Bool) (r : Dot × Entry) → ((t (tree_row r) && not (is_one_of dying (tree_row r))) && comes r) ≡ (t (tree_row r) && comes r)
       kept_arrive t r = elim (comes r) as (λ x. comes r ≡ x → ((t (tree_row r) && not (is_one_of dying (tree_row r))) && x) ≡ (t (tree_row r) && x)) [
         | true ↦ λ is. ap (λ x. (t (tree_row r) && not x) && true) (no_dying r is) ∙ ap (λ x. x && true) (and-true (t (tree_row r)))
-        | false ↦ λ is. and-false (t (tree_row r) && not (is_one_of dying (tree_row r))) ∙ sym (and-false (t (tree_row r)))
+        | false ↦ λ is. and-false (t (tree_row r) && not (is_one_of dying (tree_row r))) ∙ sym (and-false (t
+            (tree_row r)))
       ] refl
 
   -- once those that come are taken out again, the tree is as before

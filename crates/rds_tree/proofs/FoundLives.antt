@@ -93,7 +93,8 @@ module _ (c : Command) (v : Lived) (d : Dot) where
 pub found_covered : (c : Command) (path : List (List ℕ)) (v : Lived) (tree : List Row) → path ≡ path_covered c → Holds (live_rows v) tree → (d : Dot) (e : Entry) → found_at (covered_leaf c) (is_deep c) path tree d e ≡ is_covered c v d e
 found_covered c path v tree at holds d e =
     ap (λ p. found_at (covered_leaf c) (is_deep c) p tree d e) at
-    ∙ holds.any (λ r. goes (covered_leaf c) (is_deep c) (path_covered c) r.path r.leaf && eq_by_cmp dot_cmp r.leaf.dot d)
+    ∙ holds.any (λ r. goes (covered_leaf c) (is_deep c) (path_covered c) r.path r.leaf && eq_by_cmp dot_cmp
+    r.leaf.dot d)
     ∙ any_alike _ (hit c v d) v (λ q f live. ap (λ b. b && eq_by_cmp dot_cmp q d) (goes_covers c (q, f)))
     ∙ any_hit c v d e
 

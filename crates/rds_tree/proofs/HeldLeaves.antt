@@ -74,7 +74,8 @@ full-leaves [] elems all every = full-leaves_of Elem elems every
 full-leaves ((v, []) ∷ regs) elems all every = absurd (cc)
 full-leaves ((v, (d ∷ ds)) ∷ regs) elems all every = refl
 
-pub regs_full : (regs elems : Held) → are_full regs ≡ true → is_filled regs ≡ true → is_filled (leaves_in regs elems) ≡ true
+pub regs_full : (regs elems : Held) → are_full regs ≡ true → is_filled regs ≡ true
+    → is_filled (leaves_in regs elems) ≡ true
 regs_full [] elems all full = absurd (cc)
 regs_full ((v, []) ∷ regs) elems all full = absurd (cc)
 regs_full ((v, (d ∷ ds)) ∷ regs) elems all full = refl

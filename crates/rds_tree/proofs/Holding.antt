@@ -99,7 +99,8 @@ tied d = ap is_eq (tied_itself dots_total d)
 pub finds : (c : Command) (path : List (List ℕ)) (v : Lived) (tree : List Row) → path ≡ path_covered c → Holds (live_rows v) tree → (d : Dot) (e : Entry) → map.get v d ≡ Some (Live e) → found_at (covered_leaf c) (is_deep c) path tree d e ≡ covers c e
 finds c path v tree at holds d e live =
     ap (λ p. found_at (covered_leaf c) (is_deep c) p tree d e) at
-    ∙ holds.any (λ r. goes (covered_leaf c) (is_deep c) (path_covered c) r.path r.leaf && eq_by_cmp dot_cmp r.leaf.dot d)
+    ∙ holds.any (λ r. goes (covered_leaf c) (is_deep c) (path_covered c) r.path r.leaf && eq_by_cmp dot_cmp
+    r.leaf.dot d)
     ∙ both_ways _ _
     (λ h. let p = live_passes hit v h in
     let is : p.0 ≡ d = dot_is p.0 d (and_right (goes (covered_leaf c) (is_deep c) (path_covered c) p.1.0.path (leaf_at (p.0, p.1.0))) _ p.1.1.1) in
@@ -173,7 +174,8 @@ module _ (c : Command) (p : Parts) (is : parts_of c ≡ Some p) (a : StateValue)
       ∙ ap (λ q. goes (covered_leaf c) (is_deep c) q e.path (leaf_at (d, e))) (shallow_parts c p is).1
       ∙ goes_covers c (d, e)
 
-  same_row : (e : Entry) → HasParts p.path p.kind p.value e → (d : Dot) → d ≡ new → tree_row (d, e) ≡ leaf_row p.path leaf
+  same_row : (e : Entry) → HasParts p.path p.kind p.value e → (d : Dot) → d ≡ new
+      → tree_row (d, e) ≡ leaf_row p.path leaf
   same_row e has d at = λ i. record { path = has.at i; leaf = record { kind = has.stands i; value = has.holds i; dot = at i } }
 
   pub holds_made : (b : StateValue) (old mid tree : List Row) → new ≡ dot_of own (own_top (coordinates a) own + 1) → Holds (live_rows a.lives) old → AddsRow old (leaf_row p.path leaf) mid → IsCut (covering c (Some new)) (is_deep c) p.path mid tree → JoinsEffect (coordinates a) own c (coordinates b) → Holds (live_rows b.lives) tree

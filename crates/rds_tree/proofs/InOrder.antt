@@ -15,7 +15,8 @@ use Rattle.rds_tree.specs.Document.{Placed, entries_in, key_cmp, counted_keys, s
 use Rattle.rds_names.specs.Orders.{scalar_cmp}
 use Rattle.rds_tree.specs.Shown.{Shown, maps_of}
 use Rattle.rds_tree.specs.Shows.{Ascend, IsInOrder, SumsAscend, map_keys}
-use Rattle.rds_tree.specs.View.{below, below_path, children, counters_shown, entries_view, first_key, goes_deeper, keys_below}
+use Rattle.rds_tree.specs.View.{below, below_path, children, counters_shown, entries_view, first_key, goes_deeper}
+use Rattle.rds_tree.specs.View.{keys_below}
 use Rattle.rds_tree.specs.View.{shown_to, value_here, values_by_key, values_here, view_of, with_key}
 use Rattle.rds_tree.proofs.Members.{once_rises}
 

@@ -19,7 +19,8 @@ use Rattle.rds_tree.specs.declared.leaf.Leaf.{Leaf}
 use Rattle.rds_tree.specs.Once.{once_is}
 use Rattle.rds_tree.specs.Document.{Placed, key_cmp}
 use Rattle.rds_tree.specs.View.{keys_below, first_key, same_key, step_into, below, below_path, children}
-use Rattle.rds_tree.specs.Row.{Row, under, at_end, rows_in_children, rows_in_node, is_filled, are_full, placement, placed_all}
+use Rattle.rds_tree.specs.Row.{Row, under, at_end, rows_in_children, rows_in_node, is_filled, are_full, placement}
+use Rattle.rds_tree.specs.Row.{placed_all}
 use Rattle.rds_tree.specs.Row.{placed_below}
 
 abbrev heads : List Placed → List (List ℕ)
@@ -121,7 +122,8 @@ nothing_below k [] none = refl
 nothing_below k (c ∷ cs) none =
     elim (at_key k c.0) as (λ b. at_key k c.0 ≡ b → cond b (Some c.1) (lookup (at_key k) cs) ≡ None → below k (placed_all (map (under c.0) c.1 ++ rows_in_children cs)) ≡ []) [
       | true ↦ λ e h. absurd (cc)
-      | false ↦ λ e h. below-under k c.0 c.1 (rows_in_children cs) false (sym (flip_eq k c.0) ∙ e) ∙ nothing_below k cs h
+      | false ↦ λ e h. below-under k c.0 c.1 (rows_in_children cs) false (sym (flip_eq k c.0) ∙ e) ∙ nothing_below k
+          cs h
     ] refl none
 
 pub below-no_child : (k : List ℕ) (leaves : List Leaf) (cs : List (List ℕ × List Row)) → None ≡ lookup (at_key k) cs → below k (placed_all (rows_in_node leaves cs)) ≡ []

@@ -21,7 +21,8 @@ use Rattle.rds_tree.specs.Document.{Placed, entries_in, sums_of, document}
 use Rattle.rds_tree.specs.Gathered.{child_maps}
 use Rattle.rds_tree.specs.Shown.{Shown, shows, maps_of}
 use Rattle.rds_tree.specs.Shows.{IsLiveBelow, map_at, maps_in}
-use Rattle.rds_tree.specs.View.{below, below_path, children, counters_shown, entries_view, first_key, goes_deeper, is_below}
+use Rattle.rds_tree.specs.View.{below, below_path, children, counters_shown, entries_view, first_key, goes_deeper}
+use Rattle.rds_tree.specs.View.{is_below}
 use Rattle.rds_tree.specs.View.{keys_below, same_key, shown_to, step_into, values_by_key, view_of}
 use Rattle.rds_tree.proofs.Kids.{fit, fit-below_path, itself}
 use Rattle.rds_tree.proofs.Members.{any-once, any_wider}

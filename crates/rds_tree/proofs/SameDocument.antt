@@ -111,4 +111,5 @@ same_sums v w same = (λ i. each (λ k. (k, (sym (value_is v k) ∙ same.sums k 
 pub same_documents : (v w : StateValue) → AreSameDocument v w → (path : List (List ℕ)) → view_of (document v) path ≡ view_of (document w) path
 same_documents v w same path =
     ap (λ sums. entries_view (counters_shown path sums) path (entries_in (live_rows v.lives))) (same_sums v w same)
-    ∙ same_entries_view (counters_shown path (sums_of w.counts)) path _ _ (same_below_path path _ _ (same_live v w same))
+    ∙ same_entries_view (counters_shown path (sums_of w.counts)) path _ _ (same_below_path path _ _ (same_live v w
+    same))

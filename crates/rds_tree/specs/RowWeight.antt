@@ -27,4 +27,8 @@ lighter_below (c ∷ cs) h =
     omega (arith, weight-append (map (under c.0) c.1) (rows_in_children cs), weight-under c.0 c.1, full_length (are_full cs) c.1 h, lighter_below cs (full_rest (is_filled c.1) (are_full cs) h))
 
 pub child_is_lighter : (leaves : List Leaf) (cs : List (List ℕ × List Row)) → are_full cs ≡ true → max (most (λ y. weight y + 1) (map (λ x. x.1) cs)) 0 ≤ weight (rows_in_node leaves cs)
-child_is_lighter leaves cs h = omega (arith, weight-append (map at_end leaves) (rows_in_children cs), lighter_below cs h)
+child_is_lighter leaves cs h = omega (
+  arith,
+  weight-append (map at_end leaves) (rows_in_children cs),
+  lighter_below cs h,
+)

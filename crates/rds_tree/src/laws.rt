@@ -18,7 +18,8 @@ ghost use Rattle.rds_tree.specs.View.{view_of};
 /// integers by size, texts by their bytes. The function does nothing: its contract is these laws.
 pub fn views_show_what_is_live()
     ensures regs { (v : StateValue) (path : List (List ℕ)) (key : List ℕ) (value : Scalar)
-        → (shows_value (regs_in (view_of (document v) path)) key value ≡ true) ↔ IsLiveAt v (path ++ key ∷ []) Reg value }
+        → (shows_value (regs_in (view_of (document v) path)) key value ≡ true)
+        ↔ IsLiveAt v (path ++ key ∷ []) Reg value }
     ensures sets { (v : StateValue) (path : List (List ℕ)) (key : List ℕ) (value : Scalar)
         → (shows_value (sets_in (view_of (document v) path)) key value ≡ true)
         ↔ IsLiveAt v (path ++ key ∷ []) Elem value }

@@ -11,7 +11,8 @@ use Rattle.rds_state.proofs.JoinLaws.{same_value}
 use Rattle.rds_codec.specs.AnswerTexts.{answer, answer_text}
 use Rattle.rds_world.specs.declared.event.Event.{Event}
 use Rattle.rds_world.specs.World.{World, Happening, Of, lend, reply}
-use Rattle.rds_world.specs.Coherent.{IsCoherent, Position, AtMemory, AtKept, Store, Memory, Kept, state_at_position, state_in}
+use Rattle.rds_world.specs.Coherent.{IsCoherent, Position, AtMemory, AtKept, Store, Memory, Kept, state_at_position}
+use Rattle.rds_world.specs.Coherent.{state_in}
 use Rattle.rds_world.specs.Law.{Law, world_after, held_after, held_in, bases_after, effects_after}
 use Rattle.rds_world.specs.Reached.{AnswersBringTheirAskers, OfAnswered, ReplicasAreCoherent, ReplicasAreJoins}
 use Rattle.rds_world.specs.Reached.{ReplicasExplainTheirDots, ReplicasShowTheirUpdates, ReplicasStayFriends}

@@ -23,7 +23,8 @@ use Rattle.rds_world.specs.declared.event.Event.TheVariants.{Edit, Save, Crash, 
 use Rattle.rds_world.specs.World.{World, Happening, Of, AnswerLent, Question, Reply, empty, put, start, after_edit, lend}
 use Rattle.rds_world.specs.World.{reply_from, after_reply, after_lent, after_take, after, refusal_of, next, hindrance, run}
 use Rattle.rds_world.specs.World.{Accepted}
-use Rattle.rds_world.specs.Coherent.{Position, AtMemory, AtKept, AtAsk, AtAnswer, state_asked, state_answered, state_at_position}
+use Rattle.rds_world.specs.Coherent.{Position, AtMemory, AtKept, AtAsk, AtAnswer, state_asked, state_answered}
+use Rattle.rds_world.specs.Coherent.{state_at_position}
 use Rattle.rds_world.specs.Coherent.{AnswersIts, IsCoherent}
 use Rattle.rds_delta.proofs.LeastLaws.{compatible_sym, compatible_least, least_part, least_above}
 use Rattle.rds_world.proofs.States.{by_life, agree_if, compatible_same, knows_same, knows_grown, knows_join, knows_less}
@@ -79,7 +80,8 @@ module _ (w : World) (i : IsCoherent w) where
 -- where each state of a world is one of another or this one, which agrees with all of those
 module _ (v w : World) (i : IsCoherent v) where
   one_more : (x : Coordinates) → ((a : Coordinates) → IsIn w a → IsIn v a ⊎ (a ≡ x)) → ((a : Coordinates) → IsIn v a → AreCompatible x a)
-      → (p q : Position) (a b : Coordinates) → state_at_position w p ≡ Some a → state_at_position w q ≡ Some b → AreCompatible a b
+      → (p q : Position) (a b : Coordinates) → state_at_position w p ≡ Some a → state_at_position w q ≡ Some b
+      → AreCompatible a b
   one_more x k h p q a b d e = go (k a (in_of w p a d)) (k b (in_of w q b e))
     where
       go : IsIn v a ⊎ (a ≡ x) → IsIn v b ⊎ (b ≡ x) → AreCompatible a b

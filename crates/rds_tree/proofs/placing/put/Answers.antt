@@ -38,7 +38,8 @@ cut_covered-requires g c =
     subst (λ q. IsGathered (found q) [] c.place.new.dots.items) c.keys.ensures.keys
     (subst (λ (ds : List Dot). IsGathered (found c.keys.result.now) ds c.place.new.dots.items) c.new-dots.ensures.items c.in_ok-place.ensures.gathered) in
     let adds : AddsRow tree (leaf_row p.path (record { kind = p.kind; value = p.value; dot = new })) mid =
-    subst (λ q. AddsRow tree (leaf_row q (record { kind = p.kind; value = p.value; dot = new })) mid) c.keys.ensures.keys
+    subst (λ q. AddsRow tree (leaf_row q (record { kind = p.kind; value = p.value; dot = new })) mid)
+    c.keys.ensures.keys
     (subst (λ (v : Scalar). AddsRow tree (leaf_row c.keys.result.now (record { kind = p.kind; value = v; dot = new })) mid) c.in_ok-copy.ensures.ok c.in_ok-place.ensures.ok) in
     record {
       none = λ empty.
@@ -56,7 +57,8 @@ returns-in-Ok-clause-holds g c =
     let mid = c.place.new.self in
     let new = c.in_ok-dot.dot in
     let adds : AddsRow tree (leaf_row p.path (record { kind = p.kind; value = p.value; dot = new })) mid =
-    subst (λ q. AddsRow tree (leaf_row q (record { kind = p.kind; value = p.value; dot = new })) mid) c.keys.ensures.keys
+    subst (λ q. AddsRow tree (leaf_row q (record { kind = p.kind; value = p.value; dot = new })) mid)
+    c.keys.ensures.keys
     (subst (λ (v : Scalar). AddsRow tree (leaf_row c.keys.result.now (record { kind = p.kind; value = v; dot = new })) mid) c.in_ok-copy.ensures.ok c.in_ok-place.ensures.ok) in
     holds_made command p c.requires.parts old.state old.own new c.in_ok-dot.ensures.unseen c.edit_found.new.self.state tree mid c.cut_covered.new.tree c.in_ok-dot.ensures.exact.1 c.requires.holds adds
     (subst (λ q. IsCut (covering command (Some new)) (is_deep command) q mid c.cut_covered.new.tree) c.keys-in-Ok.ensures.keys c.cut_covered.ensures) c.in-Ok.ensures.edited.joined
