@@ -2,14 +2,15 @@
 use Rattle.std.proofs.Common.{◌≡◌, ◌∙◌, ◌++◌, ℕ, true, false, List, [], ◌∷◌, Option, Some, Result, Ok, Err, IfSome, ap, bytes_eq, drop, inl, inr, length, subst, sym, take}
 use Rattle.std.specs.Global.{Vec}
 use Rattle.rds_codec.specs.Decoding.{IsTextOf}
+use Rattle.rds_fields.specs.Tags.{tag_text}
 use Rattle.rds_names.specs.declared.fault.Fault.{Fault}
 use Rattle.rds_questions.specs.Questions.{QuestionValue, question_kind, question_of, question_text}
 use Rattle.rds_questions.specs.Responding.{RespondGives}
+use Rattle.rds_questions.specs.Tags.{IsTagOf}
+use Rattle.rds_questions.specs.declared.tags.Tag.{Tag}
 use Rattle.rds_state.specs.Fits.{ReplicaValue}
 use Rattle.http_server.specs.declared.response.Response.{Response}
 use Rattle.rds_http.specs.Changes.{AnswersAs, AnswersPull, AnswersPush, AnswersTexts, IsOfAsked, IsOfOther, MayAnswerAs, asked_as}
-use Rattle.rds_http.specs.Tags.{IsTagOf, tag_text}
-use Rattle.rds_http.specs.declared.tag.Tag.{Tag}
 use Rattle.rds_http.proofs.Texts.{is_behind, none_behind}
 
 -- bytes begin with the tag of what is asked now

@@ -4,6 +4,5 @@ mod NewsTexts
 mod Paths
 mod ReplyLines
 mod Shown
-mod TagTexts
 mod Takes
 mod Texts

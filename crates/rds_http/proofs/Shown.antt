@@ -6,14 +6,16 @@ use Rattle.http_header.specs.FieldValue.{FieldValue}
 use Rattle.http_header.specs.HeaderMap.{Entries}
 use Rattle.http_server.specs.Response.{IsResponse}
 use Rattle.http_server.specs.declared.response.Response.{Response}
+use Rattle.rds_fields.specs.Tags.{tag_text}
+use Rattle.rds_questions.specs.Tags.{IsTagOf}
+use Rattle.rds_questions.specs.declared.tags.Tag.{Tag}
 use Rattle.rds_state.specs.Fits.{ReplicaValue}
 use Rattle.rds_store.specs.Meetings.{MayAsk}
 use Rattle.rds_http.specs.Looks.{AnswersLook, ShowsQuestion, ShowsSnapshot, TellsQuestion, own_field}
 use Rattle.rds_http.specs.Replies.{tag_fields, type_field}
-use Rattle.rds_http.specs.Tags.{IsTagOf, always, is_known, tag_text}
+use Rattle.rds_http.specs.Tags.{always, is_known}
 use Rattle.rds_http.specs.declared.routes.Look.{Look}
 use Rattle.rds_http.specs.declared.routes.Look.TheVariants.{Snapshot}
-use Rattle.rds_http.specs.declared.tag.Tag.{Tag}
 
 -- two fields behind others
 pub two_more : (old first after : List Header) (one : Header) (name tag value : List ℕ) → first ≡ old ++ one ∷ [] → value ≡ tag

@@ -9,7 +9,7 @@ use Rattle.std.specs.Net.Text.{socket_text}
 use Rattle.std.specs.declared.net.socket_addr.SocketAddr.{SocketAddr}
 use Rattle.http_header.specs.FieldValue.{FieldValue}
 use Rattle.http_header.specs.HeaderMap.{Entries}
-use Rattle.rds_http.specs.Tokens.{cookie_start, is_shown, values_in}
+use Rattle.rds_fields.specs.Tokens.{cookie_start, is_shown, values_in}
 use Rattle.rds_http.specs.declared.access.Denied.{Denied}
 use Rattle.rds_http.specs.declared.access.Denied.TheVariants as Why
 use Rattle.rds_http.specs.declared.routes.Asked.{Asked}

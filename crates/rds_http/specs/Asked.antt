@@ -2,10 +2,10 @@
 use Rattle.std.specs.Prelude.{◌≡◌, ℕ, List, refl}
 use Rattle.std.specs.Coded.{Coded, code_by, coded×, coded_list, coded_ℕ}
 use Rattle.rds_questions.specs.Questions.{question_of, question_text}
+use Rattle.rds_questions.specs.Tags.{IsTagOf}
+use Rattle.rds_questions.specs.declared.tags.Tag.{Tag}
 use Rattle.rds_state.specs.Fits.{ReplicaValue}
 use Rattle.rds_state.specs.declared.mark.Mark.{Mark}
-use Rattle.rds_http.specs.Tags.{IsTagOf}
-use Rattle.rds_http.specs.declared.tag.Tag.{Tag}
 
 pub record AskedValue : Type 0 where
   pub tag : Tag

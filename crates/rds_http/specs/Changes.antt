@@ -5,6 +5,7 @@ use Rattle.std.specs.Int.{to_be_bytes, w32}
 use Rattle.std.specs.Str.{is_utf8}
 use Rattle.http_server.specs.declared.response.Response.{Response}
 use Rattle.rds_codec.specs.Decoding.{Decodes, IsTextOf}
+use Rattle.rds_fields.specs.Tags.{HoldsTagged}
 use Rattle.rds_json.specs.Members.{of_one}
 use Rattle.rds_json.specs.Scalar.{scalar_of}
 use Rattle.rds_lines.specs.Editing.{EditsLines, IsLineRefused, MeetsCommand, replies_text}
@@ -20,6 +21,8 @@ use Rattle.rds_output.specs.declared.reply.Reply.{Reply}
 use Rattle.rds_output.specs.declared.reply.Reply.TheVariants.{Done, Taken}
 use Rattle.rds_questions.specs.Questions.{QuestionValue, question_kind}
 use Rattle.rds_questions.specs.Responding.{RespondGives}
+use Rattle.rds_questions.specs.Tags.{IsTagOf, RefusesTag}
+use Rattle.rds_questions.specs.declared.tags.Tag.{Tag}
 use Rattle.rds_state.specs.Fits.{ReplicaValue}
 use Rattle.rds_state.specs.declared.command.Command.{Command}
 use Rattle.rds_state.specs.declared.command.Command.TheVariants.{Set}
@@ -31,9 +34,7 @@ use Rattle.rds_http.specs.Lines.{line_count, lines_status}
 use Rattle.rds_http.specs.Looks.{lines_of_json, path_in}
 use Rattle.rds_http.specs.Refusals.{IsUnknownTag, TellsFault, json}
 use Rattle.rds_http.specs.Replies.{Tells}
-use Rattle.rds_http.specs.Tags.{HoldsTagged, IsTagOf, RefusesTag}
 use Rattle.rds_http.specs.declared.lines.TheConstants.{MOST_LINES}
-use Rattle.rds_http.specs.declared.tag.Tag.{Tag}
 
 -- ---- edits
 

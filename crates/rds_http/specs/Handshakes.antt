@@ -8,7 +8,7 @@ use Rattle.http_header.specs.HeaderMap.{Entries}
 use Rattle.http_server.specs.declared.response.Response.{Response}
 use Rattle.http_server.specs.Response.{IsResponse}
 use Rattle.websocket.specs.Handshake.{IsValidKey, accept_key_of}
-use Rattle.rds_http.specs.Tokens.{values_in}
+use Rattle.rds_fields.specs.Tokens.{values_in}
 
 -- the fields of a request
 abbrev pub headers_of : Request (List ℕ) → Entries FieldValue

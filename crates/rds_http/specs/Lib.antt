@@ -12,4 +12,3 @@ pub mod Replies
 pub mod Routes
 pub mod Site
 pub mod Tags
-pub mod Tokens

@@ -2,8 +2,8 @@
 use Rattle.std.specs.Prelude.{ℕ, Bool, true, false, List, [], ◌∷◌, ◌++◌, codes, bytes_eq, Option, None, Some}
 use Rattle.http_server.specs.declared.response.Response.{Response}
 use Rattle.http_server.specs.Response.{IsResponse}
+use Rattle.rds_fields.specs.Tokens.{cookie_start}
 use Rattle.rds_http.specs.Refusals.{IsDenied}
-use Rattle.rds_http.specs.Tokens.{cookie_start}
 use Rattle.rds_http.specs.declared.access.Denied.TheVariants as Why
 
 -- the cookie (RFC 6265) of a site at a port: no script reads it, and no page of another site sends it

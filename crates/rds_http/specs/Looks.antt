@@ -12,6 +12,7 @@ use Rattle.http_server.specs.Response.{IsResponse}
 use Rattle.percent_encoding.specs.Percent.{percent_decode}
 use Rattle.serde_json.specs.Data.{Data}
 use Rattle.serde_json.specs.Written.{IsInOrder}
+use Rattle.rds_fields.specs.Tags.{tag_text}
 use Rattle.rds_keep.specs.Sums.{EncodesFile}
 use Rattle.rds_lines.specs.Overview.{IsOverview}
 use Rattle.rds_listing.specs.Conflicts.{conflicts_text}
@@ -19,16 +20,17 @@ use Rattle.rds_names.specs.AndThen.{◌>>=◌}
 use Rattle.rds_names.specs.declared.fault.Fault.{Fault}
 use Rattle.rds_names.specs.declared.fault.Fault.TheVariants.{BadKey, Memory}
 use Rattle.rds_page.specs.declared.TheConstants.{PAGE, POLICY}
+use Rattle.rds_questions.specs.Tags.{IsTagOf, RefusesTag}
+use Rattle.rds_questions.specs.declared.tags.Tag.{Tag}
 use Rattle.rds_state.specs.Fits.{ReplicaValue}
 use Rattle.rds_state.specs.Value.{StateValue}
 use Rattle.rds_store.specs.Looks.{IsValueText, RefusesPlace, here_text, text_at_path, view_text}
 use Rattle.rds_store.specs.Meetings.{MayAsk}
 use Rattle.rds_http.specs.Refusals.{TellsFault, json}
 use Rattle.rds_http.specs.Replies.{Tells, TellsTagged, tag_fields, type_field}
-use Rattle.rds_http.specs.Tags.{IsTagOf, RefusesTag, always, is_known, state_tag, tag_text, text_tag}
+use Rattle.rds_http.specs.Tags.{always, is_known, state_tag, text_tag}
 use Rattle.rds_http.specs.declared.metrics.PeerCounts.{PeerCounts}
 use Rattle.rds_http.specs.declared.routes.Look.{Look}
-use Rattle.rds_http.specs.declared.tag.Tag.{Tag}
 use Rattle.rds_http.specs.declared.routes.Look.TheVariants.{Page, View, Here, Value, Conflicts, Status, Metrics}
 use Rattle.rds_http.specs.declared.routes.Look.TheVariants.{Ask, Snapshot}
 

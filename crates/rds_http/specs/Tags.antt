@@ -1,67 +1,15 @@
 -- Entity tags (RFC 9110), and what conditions name them.
-use Rattle.std.specs.Prelude.{◌≡◌, ℕ, ◌-◌, ◌^◌, ◌<◌, Bool, true, ◌&&◌, ◌||◌, not, ◌==◌, bytes_eq, codes, List, ◌++◌, length, take, drop, is_none, refl}
+use Rattle.std.specs.Prelude.{◌≡◌, ℕ, ◌-◌, Bool, true, ◌&&◌, ◌||◌, not, ◌==◌, bytes_eq, codes, List, ◌++◌, length, take, drop, is_none, refl}
 use Rattle.std.specs.Char.{is_ascii_whitespace}
 use Rattle.std.specs.Coded.{Coded, code_by, coded×, coded_bool, coded_list, coded_ℕ}
-use Rattle.std.specs.Int.{to_be_bytes, w64}
 use Rattle.std.specs.List.{list_any, prefix_len, slice_split, suffix_len}
-use Rattle.hex.specs.Hex.{IsBytes, encode_lower}
+use Rattle.hex.specs.Hex.{encode_lower}
 use Rattle.http_header.specs.FieldValue.{FieldValue}
 use Rattle.http_header.specs.HeaderMap.{Entries, get}
-use Rattle.rds_briefs.specs.Briefs.{brief_text}
-use Rattle.rds_codec.specs.FormatWriting.{IsTabledUnwritten}
-use Rattle.rds_names.specs.declared.fault.Fault.{Fault}
-use Rattle.rds_questions.specs.Hashed.{question_hash}
-use Rattle.rds_questions.specs.Questions.{question_of}
-use Rattle.rds_state.specs.Fits.{ReplicaValue}
+use Rattle.rds_fields.specs.Tokens.{values_in}
 use Rattle.rds_state.specs.Mark.{mark_of, mark_text}
 use Rattle.rds_state.specs.Value.{StateValue}
-use Rattle.rds_state.specs.declared.mark.Mark.{Mark}
 use Rattle.sha2.specs.Sha256.{sha256}
-use Rattle.rds_http.specs.Tokens.{values_in}
-use Rattle.rds_http.specs.declared.tag.Tag.{Tag}
-
--- ---- the tag of what a replica asks
-
--- half of a mark in hex digits
-abbrev pub half_text : ℕ → List ℕ
-half_text half = encode_lower (to_be_bytes w64 half)
-
-abbrev pub mark_digits : Mark → List ℕ
-mark_digits mark = half_text mark.high ++ half_text mark.low
-
--- digits of a hash and digits of a mark, quoted, with a dash between
-abbrev pub quoted : List ℕ → List ℕ → List ℕ
-quoted hash mark = codes "\"" ++ (hash ++ (codes "-" ++ (mark ++ codes "\"")))
-
--- what stands before, between and behind the digits
-pub record IsFrame (start dash end : List ℕ) : Type 0 where
-  pub opens : start ≡ codes "\""
-  pub parts : dash ≡ codes "-"
-  pub closes : end ≡ codes "\""
-
--- the hash and the mark, in hex digits
-unfoldable pub tag_text : Tag → List ℕ
-tag_text tag = quoted (encode_lower tag.hash) (mark_digits tag.mark)
-
--- bytes begin with the text of a tag
-abbrev pub HoldsTagged : List ℕ → Tag → List ℕ → Type 0
-HoldsTagged bytes tag rest = bytes ≡ tag_text tag ++ rest
-
--- a hash has 32 bytes, and a mark two numbers of 64 bits
-pub record IsTag (tag : Tag) : Type 0 where
-  pub bytes : IsBytes tag.hash
-  pub length : length tag.hash ≡ 32
-  pub high : tag.mark.high < 2 ^ 64
-  pub low : tag.mark.low < 2 ^ 64
-
--- the tag tells what a replica asks, but for who asks, and the mark of its state
-pub record IsTagOf (held : ReplicaValue) (tag : Tag) : Type 0 where
-  pub hash : tag.hash ≡ question_hash (question_of held)
-  pub mark : tag.mark ≡ mark_of held.state
-
--- why there is no tag: memory ran out, or the brief is too long for a question
-abbrev pub RefusesTag : ReplicaValue → Fault → Type 0
-RefusesTag held = IsTabledUnwritten (length (brief_text (question_of held).digest))
 
 -- ---- the tag of what is shown of a state
 

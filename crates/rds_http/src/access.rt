@@ -17,9 +17,9 @@ ghost use Rattle.rds_http.specs.Access.{
 };
 
 use crate::routes::{Asked, Look, Post};
-use crate::token::{Token, cookie_start};
 use http::HeaderMap;
 use http::header::{HOST, HeaderValue, ORIGIN};
+use rds_fields::{Token, are_same_names, cookie_start};
 use std::alloc::{AllocError, Global};
 use std::marker::Model;
 use std::net::SocketAddr;
@@ -156,13 +156,6 @@ fn is_host_at(alloc: Global, address: SocketAddr, host: &[u8]) -> Result<bool, A
             || are_same_names(host, four.as_bytes())
             || are_same_names(host, six.as_bytes()),
     )
-}
-
-/// Whether two names, of hosts or schemes, are the same, whatever their case (RFC 9110, 2022).
-pub fn are_same_names(name: &[u8], other: &[u8]) -> bool
-    ensures { result ≡ str_eq_ignore_ascii_case name.now other.now }
-{
-    name.eq_ignore_ascii_case(other)
 }
 
 /// Whether it is asked for something that pages of other sites may not ask for.

@@ -1,5 +1,6 @@
 //! Requests for what changed, and for changes of what did not.
 ghost use Rattle.std.specs.Prelude.{◌≡◌, IfOk, codes, string_bytes};
+ghost use Rattle.rds_fields.specs.Tokens.{values_in};
 ghost use Rattle.rds_http.specs.Tags.{
   always,
   has_strong_tag,
@@ -15,7 +16,6 @@ ghost use Rattle.rds_http.specs.Tags.{
   text_tag,
   without_blanks,
 };
-ghost use Rattle.rds_http.specs.Tokens.{values_in};
 
 use crate::access::are_joined;
 use hex::encode;

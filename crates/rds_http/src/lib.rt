@@ -1,8 +1,8 @@
-//! The HTTP service over a document in its file: what a request is answered, and what it changes. Read `routes`,
-//! `token` and `access` first, then `tag`, `asked`, `touched` and `tracked`, which has the document in its file. Then
-//! `replies`, `refusals`, `conditions`, `reading`, `pulling`, `families`, `metrics`, `lines`, `changing`, `putting`,
-//! `login` and `live`. `site` puts them together; `meeting` has what a site asks of others, and they of it, and `news`
-//! what listeners are told.
+//! The HTTP service over a document in its file: what a request is answered, and what it changes. Read `routes` and
+//! `access` first, then `asked`, `touched` and `tracked`, which has the document in its file. Then `replies`,
+//! `refusals`, `conditions`, `reading`, `pulling`, `families`, `metrics`, `lines`, `changing`, `putting`, `login` and
+//! `live`. `site` puts them together; `meeting` has what a site asks of others, and they of it, and `news` what
+//! listeners are told.
 #![tactic(auto)]
 
 mod access;
@@ -23,8 +23,6 @@ mod refusals;
 mod replies;
 mod routes;
 mod site;
-mod tag;
-mod token;
 mod touched;
 mod tracked;
 
@@ -34,5 +32,3 @@ pub use metrics::{PeerCounts, PeerStanding};
 pub use rds_store::Lacks;
 pub use routes::is_edit;
 pub use site::Site;
-pub use tag::Tag;
-pub use token::Token;

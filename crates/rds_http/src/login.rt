@@ -5,10 +5,10 @@ ghost use Rattle.rds_http.specs.Login.{AnswersLogin, cookie_of};
 
 use crate::access::{Access, Denied};
 use crate::refusals::deny;
-use crate::token::cookie_start;
 use http::StatusCode;
 use http::header::{HeaderValue, SET_COOKIE};
 use http_server::Response;
+use rds_fields::cookie_start;
 use std::alloc::{AllocError, Global};
 
 /// Answers a body that is to be the token. Where no token is due, any is.

@@ -2,17 +2,17 @@
 ghost use Rattle.std.specs.Prelude.{◌≡◌, IfErr, IfOk, OnErr};
 ghost use Rattle.rds_offline.specs.Letters.{TakesResponse};
 ghost use Rattle.rds_store.specs.Meetings.{MayAnswer, MayAsk, MayTellLacks, RefusesTaking, TellsLevel};
+ghost use Rattle.rds_questions.specs.Tags.{IsTagOf, RefusesTag};
 ghost use Rattle.rds_http.specs.Answers.{KeepsRest};
 ghost use Rattle.rds_http.specs.Changes.{MayAnswerAs};
-ghost use Rattle.rds_http.specs.Tags.{IsTagOf, RefusesTag};
 
 use crate::changing::take_answer;
 use crate::metrics::PeerCounts;
 use crate::pulling::respond_as;
 use crate::site::Site;
-use crate::tag::Tag;
 use rds_files::Disk;
 use rds_names::Fault;
+use rds_questions::Tag;
 use rds_store::Lacks;
 
 impl<H: Disk> Site<'_, H> {

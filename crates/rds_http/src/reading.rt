@@ -6,6 +6,7 @@ ghost use Rattle.http_server.specs.Response.{IsBlank, IsResponse};
 ghost use Rattle.rds_listing.specs.Conflicts.{conflicts_text};
 ghost use Rattle.rds_names.specs.Path.{path_of};
 ghost use Rattle.rds_names.specs.declared.fault.Fault.TheVariants.{Memory};
+ghost use Rattle.rds_questions.specs.Tags.{IsTagOf};
 ghost use Rattle.rds_store.specs.Looks.{here_text, view_text};
 ghost use Rattle.rds_http.specs.Changes.{AnswersQuestion};
 ghost use Rattle.rds_http.specs.Looks.{
@@ -29,14 +30,13 @@ ghost use Rattle.rds_http.specs.Looks.{
 };
 ghost use Rattle.rds_http.specs.Replies.{TellsIfUnknown};
 ghost use Rattle.rds_http.specs.Refusals.{TellsFault, json};
-ghost use Rattle.rds_http.specs.Tags.{IsTagOf, text_tag};
+ghost use Rattle.rds_http.specs.Tags.{text_tag};
 
 use crate::conditions::{Seen, document_tag, seen_of, text_tag};
 use crate::metrics::{Metrics, PeerCounts};
 use crate::refusals::refuse;
 use crate::replies::{BYTES, JSON, LINES, add_field, fill, fill_tagged, tell_known};
 use crate::routes::Look;
-use crate::tag::Tag;
 use crate::tracked::Tracked;
 use bytes::Bytes;
 use http::StatusCode;
@@ -46,9 +46,11 @@ use http::header::{
 };
 use http_server::Response;
 use percent_encoding::{DecodeError, percent_decode};
+use rds_fields::tag_text;
 use rds_files::Disk;
 use rds_names::{Fault, Path};
 use rds_page::{PAGE, POLICY};
+use rds_questions::Tag;
 use rds_store::Document;
 use std::alloc::{AllocError, Global};
 
@@ -126,7 +128,7 @@ fn tell_question(
     requires tag { IsTagOf document.now tag }
     ensures { OnOk result (ShowsQuestion headers.now document.now response.new) }
 {
-    let text = format!(in alloc; "{tag}")?;
+    let text = tag_text(alloc, &tag)?;
     let seen = seen_of(text, headers);
     if seen.is_known {
         add_own(alloc, document, response)?;

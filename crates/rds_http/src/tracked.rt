@@ -7,18 +7,19 @@ ghost use Rattle.rds_names.specs.declared.fault.Fault.TheVariants.{Memory};
 ghost use Rattle.rds_offline.specs.Letters.{TakesResponse};
 ghost use Rattle.rds_store.specs.Documents.{IsGrownBy, RefusesGrowth};
 ghost use Rattle.rds_store.specs.Meetings.{RefusesTaking};
+ghost use Rattle.rds_questions.specs.Tags.{IsTagOf, RefusesTag};
 ghost use Rattle.rds_http.specs.Changes.{IsOfAsked, IsOfOther, RefusesAsking};
 ghost use Rattle.rds_http.specs.Site.{KeepsFile};
-ghost use Rattle.rds_http.specs.Tags.{IsTagOf, RefusesTag};
 
 use crate::asked::Past;
-use crate::tag::Tag;
 use crate::touched::Touched;
+use rds_fields::{split_tag, tag_text};
 use rds_files::{Disk, LockFile};
 use rds_json::LineReader;
 use rds_lines::{Edits, edit_lines};
 use rds_names::{Fault, Roster};
 use rds_output::Reply;
+use rds_questions::Tag;
 use rds_state::{Command, Edited};
 use rds_store::{Document, DocumentFile};
 use std::alloc::Global;
@@ -52,7 +53,7 @@ impl<H: Disk> Drop for Tracked<'_, H> {
 impl<'a, H: Disk> Model for Tracked<'a, H> {
     ghost use Rattle.std.specs.Prelude.{IfSome};
     ghost use Rattle.rds_store.specs.Files.{OpenValue, coded_open};
-    ghost use Rattle.rds_http.specs.Tags.{IsTagOf};
+    ghost use Rattle.rds_questions.specs.Tags.{IsTagOf};
 
     ghost Value = { OpenValue };
 
@@ -137,11 +138,11 @@ impl<'a, H: Disk> Tracked<'a, H> {
         ensures same { self.new ≡ self.old }
     {
         let tag = self.tag()?;
-        let text = format!(in self.alloc; "{tag}")?;
+        let text = tag_text(self.alloc, &tag)?;
         if let Some(rest) = bytes.strip_prefix(text.as_bytes()) {
             return Ok(Some((self.file.document().ask()?, rest)));
         }
-        let Some((tag, rest)) = Tag::split(bytes) else {
+        let Some((tag, rest)) = split_tag(bytes) else {
             return Ok(None);
         };
         match self.past.find(tag) {

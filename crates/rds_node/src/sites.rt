@@ -1,10 +1,9 @@
 //! The sites that the program runs, meets, calls and follows.
+use rds_client::{AskWords, Resource, VisitWords, ask_node, sync_site, watch_node};
 use rds_commands::{RunSite, SiteRequest, Visit};
 use rds_files::{Disk, LockFile};
 use rds_names::{Fault, Path};
-use rds_site::{
-    AskWords, Resource, SiteWords, VisitWords, ask_node, run_site, sync_site, watch_node,
-};
+use rds_site::{SiteWords, run_site};
 use rds_words::{RunWords, SyncWords, WatchWords, interval_of};
 use std::env;
 use std::env::{Env, VarError};

@@ -1,9 +1,7 @@
 //! A connection with a peer.
 use crate::committed::Committed;
-use crate::destinations::Destination;
-use crate::requests::{Request, Response, Talk};
 use crate::sockets::{Heard, Sent, Socket};
-use crate::troubles::Trouble;
+use rds_client::{Destination, Request, Response, Talk, Trouble};
 use rds_files::Disk;
 use std::alloc::Global;
 use std::time::Instant;

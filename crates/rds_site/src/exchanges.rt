@@ -1,15 +1,13 @@
 //! An exchange with a peer, in which each brings the other what it lacks.
-ghost use Rattle.std.specs.Prelude.{◌≡◌, ◌≢◌, ◌↔◌, IsTrue};
-
 use crate::channels::Channel;
 use crate::committed::Committed;
-use crate::destinations::Destination;
 use crate::levels::Level;
-use crate::requests::{DONE, NOT_MODIFIED, Request, Resource, Response};
-use crate::troubles::{End, Trouble};
+use rds_client::{DONE, Destination, End, NOT_MODIFIED, Request, Resource, Response, Trouble};
+use rds_fields::tag_text;
 use rds_files::{Disk, LockFile};
-use rds_http::{Lacks, Site, Tag};
+use rds_http::{Lacks, Site};
 use rds_names::Fault;
+use rds_questions::Tag;
 use std::alloc::Global;
 use std::mem;
 use std::time::Instant;
@@ -160,7 +158,7 @@ impl Exchange {
                 self.step = Step::Checking { level };
             }
             None => {
-                let tag = format!(in self.alloc; "{own}")?;
+                let tag = tag_text(self.alloc, &own)?;
                 self.look(destination, Resource::Ask, &tag, now)?;
                 self.step = Step::Asking;
             }
@@ -334,7 +332,7 @@ impl Exchange {
             self.knows_tags = false;
             return self.begin_again(site, destination, now);
         };
-        if are_forked(&own, &theirs) {
+        if own.is_fork_of(&theirs) {
             return Ok(self.end(End::Forked, false));
         }
         if theirs == own {
@@ -464,7 +462,7 @@ impl Exchange {
         self.number = response.head.replica;
         let lacks = site.lacks(&response.body)?;
         if let Some(theirs) = response.head.tag {
-            if are_forked(&site.tag()?, &theirs) {
+            if site.tag()?.is_fork_of(&theirs) {
                 return Ok(self.end(End::Forked, false));
             }
         }
@@ -585,11 +583,4 @@ impl Exchange {
     pub fn send<H: Disk>(&mut self, committed: &Committed<'_, '_, H>, now: Instant) {
         self.channel.send(committed, now);
     }
-}
-
-/// Whether two replicas have seen the same, and hold different entries.
-pub fn are_forked(own: &Tag, theirs: &Tag) -> bool
-    ensures { IsTrue result ↔ ((own.now.hash ≡ theirs.now.hash) × (own.now.mark ≢ theirs.now.mark)) }
-{
-    own.hash == theirs.hash && own.mark != theirs.mark
 }

@@ -1,7 +1,9 @@
 //! What a node and a peer asked when they were level.
-use crate::troubles::Trouble;
+use rds_client::Trouble;
+use rds_fields::tag_text;
 use rds_files::{Disk, LockFile};
-use rds_http::{LONGEST_QUESTION, Site, Tag};
+use rds_http::{LONGEST_QUESTION, Site};
+use rds_questions::Tag;
 use std::alloc::{AllocError, Global};
 
 /// What a node asked when it was level with a peer: its question, and the tag of that. The peer asked the same then, but
@@ -37,8 +39,7 @@ impl Level {
 
     /// The text of the tag.
     pub fn tag_text(&self, alloc: Global) -> Result<String, AllocError> {
-        let tag = self.tag;
-        format!(in alloc; "{tag}")
+        tag_text(alloc, &self.tag)
     }
 
     /// The tags with which a peer has nothing for a site that has this one: that, and the one of the level.
@@ -46,8 +47,9 @@ impl Level {
         if self.is_of(own) {
             return self.tag_text(alloc);
         }
-        let tag = self.tag;
-        format!(in alloc; "{own}, {tag}")
+        let own = tag_text(alloc, &own)?;
+        let level = self.tag_text(alloc)?;
+        format!(in alloc; "{own}, {level}")
     }
 
     /// What the site answers what the peer asked.

@@ -1,11 +1,10 @@
 //! The peers of a site.
 use crate::behind::OWN_AHEAD;
 use crate::committed::Committed;
-use crate::destinations::{Destination, MOST_PEERS};
 use crate::peers::{Counted, Outcome, Peer};
 use crate::sockets::Line;
-use crate::troubles::Standing;
 use mio::{Registry, Token};
+use rds_client::{Destination, MOST_PEERS, Standing};
 use rds_files::{Disk, LockFile};
 use rds_http::{PeerCounts, PeerStanding, Site};
 use std::alloc::{AllocError, Global};

@@ -1,11 +1,10 @@
 //! A peer: another node that this one meets.
 use crate::channels::{Channel, PATIENCE};
 use crate::committed::Committed;
-use crate::destinations::Destination;
 use crate::exchanges::{Exchange, Progress};
 use crate::schedule::{Schedule, after};
 use crate::sockets::{Line, Socket};
-use crate::troubles::{End, FORKED, Standing, Trouble};
+use rds_client::{Destination, End, FORKED, Standing, Trouble};
 use rds_files::{Disk, LockFile};
 use rds_http::{PeerStanding, Site};
 use std::alloc::{AllocError, Global};

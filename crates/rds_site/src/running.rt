@@ -5,15 +5,13 @@ ghost use Rattle.rds_site.specs.Addresses.{NamesPlace};
 
 use crate::addresses::{check_reach, read_address};
 use crate::arrivals::Door;
-use crate::destinations::find_peers;
 use crate::logging::{Log, LoggedSite};
 use crate::peer_table::Peers;
 use crate::reserve::Reserve;
-use crate::secrets::read_secret;
 use crate::table::Clients;
-use crate::troubles::Trouble;
 use crate::turns::Turns;
 use crate::words::SiteWords;
+use rds_client::{Trouble, find_peers, read_secret};
 use rds_files::{Disk, HolderNote, LockFile, check_writing};
 use rds_http::{Access, Site};
 use rds_names::Fault;

@@ -8,7 +8,7 @@ use crate::logging::LoggedSite;
 use crate::peer_table::Peers;
 use crate::reserve::Reserve;
 use crate::table::Clients;
-use crate::troubles::Trouble;
+use rds_client::Trouble;
 use rds_files::{Disk, LockFile};
 use rds_names::Fault;
 use std::io;

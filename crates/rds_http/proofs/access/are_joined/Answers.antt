@@ -1,5 +1,5 @@
 use Rattle.std.proofs.Common.{◌∙◌, sym}
-use Rattle.rds_http.proofs.Texts.{bytes_eq-other, bytes_eq-rest}
+use Rattle.rds_fields.proofs.Texts.{bytes_eq-other, bytes_eq-rest}
 use Rattle.rds_http.proofs.access.are_joined.Goals as goal
 
 pub returns-in-Some : goal.returns-in-Some

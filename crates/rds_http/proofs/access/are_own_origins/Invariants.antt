@@ -1,7 +1,7 @@
 use Rattle.std.proofs.Common.{◌≡◌, codes, map}
 use Rattle.std.specs.List.{list_all}
+use Rattle.rds_fields.specs.Tokens.{values_in}
 use Rattle.rds_http.specs.Access.{host_in, is_own_origin}
-use Rattle.rds_http.specs.Tokens.{values_in}
 use Rattle.rds_http.proofs.access.are_own_origins.Given as goal
 
 -- all origins so far are those of the host

@@ -1,7 +1,7 @@
 use Rattle.std.proofs.Common.{◌≡◌, codes, map}
 use Rattle.std.specs.List.{list_any}
+use Rattle.rds_fields.specs.Tokens.{values_in}
 use Rattle.rds_http.specs.Tags.{is_named_by}
-use Rattle.rds_http.specs.Tokens.{values_in}
 use Rattle.rds_http.proofs.conditions.Current.is_known.Given as goal
 
 -- none of the conditions so far names the tag

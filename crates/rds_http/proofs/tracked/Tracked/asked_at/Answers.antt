@@ -9,8 +9,8 @@ returns-in-Some-clause-some g c =
     c.document.result.now c.in_ok-tag.tag c.in-Some.ensures.cases.0 c.in-Some.ensures.cases.1
     (c.as_bytes.ensures.value ∙ c.in_ok-text.ensures.ok) c.in_ok-tag.ensures.tag c.in_ok-ask.ensures.0 same
 
-pub returns-in_default-split-clause-none : goal.returns-in_default-split-clause-none
-returns-in_default-split-clause-none g c none =
+pub returns-in_default-split_tag-clause-none : goal.returns-in_default-split_tag-clause-none
+returns-in_default-split_tag-clause-none g c none =
     asked_otherwise c.args.bytes.now c.as_bytes.result.now c.args.self.now.document c.in_ok-tag.tag c.in_default.ensures.cases
     (c.as_bytes.ensures.value ∙ c.in_ok-text.ensures.ok) c.in_ok-tag.ensures.tag
 

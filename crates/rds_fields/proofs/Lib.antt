@@ -1,0 +1,2 @@
+mod TagTexts
+pub mod Texts
