@@ -17,7 +17,7 @@ use Rattle.rds_output.specs.Reply.{is_refusal}
 use Rattle.rds_output.specs.declared.reply.Reply.{Reply}
 use Rattle.rds_state.specs.Fits.{ReplicaValue}
 use Rattle.rds_state.specs.declared.command.Command.{Command}
-use Rattle.rds_http.specs.Changes.{MeetsSet, set_in}
+use Rattle.rds_http.specs.Changes.{MeetsPut, put_command}
 use Rattle.rds_http.specs.Lines.{is_short, line_status, lines_status}
 
 -- ---- how many
@@ -70,9 +70,9 @@ met_edit : (line : ℕ) (bytes : List ℕ) (before after : ReplicaValue) (answer
 met_edit line bytes before after answer met = met_if_room line (edit_of_bytes bytes) before after answer met
 
 -- the same of a register that is put
-pub met_set : (place body : List ℕ) (before after : ReplicaValue) (answer : Reply)
-    → MeetsSet place body before answer after → IsAnswer before after answer
-met_set place body before after answer met = met_if_room 1 (set_in place body) before after answer met
+pub met_put : (place body : List ℕ) (before after : ReplicaValue) (answer : Reply)
+    → MeetsPut place body before answer after → IsAnswer before after answer
+met_put place body before after answer met = met_if_room 1 (put_command place body) before after answer met
 
 -- a lone answer that is short
 pub one_short : (answer : Reply) → is_short answer ≡ true → list_all is_short (answer ∷ []) ≡ true

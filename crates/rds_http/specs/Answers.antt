@@ -9,10 +9,10 @@ use Rattle.http_uri.specs.Uri.{uri_path}
 use Rattle.rds_state.specs.Value.{StateValue}
 use Rattle.rds_http.specs.Access.{denial}
 use Rattle.rds_http.specs.Changes.{AnswersEdits, AnswersGrowth, AnswersPull, AnswersPush, AnswersQuestion, AnswersTake}
-use Rattle.rds_http.specs.Changes.{SetsAt}
+use Rattle.rds_http.specs.Changes.{AnswersPut}
 use Rattle.rds_http.specs.Handshakes.{AnswersHandshake, headers_of}
 use Rattle.rds_http.specs.Login.{AnswersLogin}
-use Rattle.rds_http.specs.Looks.{AnswersLook, IsValueAt, RefusesAt}
+use Rattle.rds_http.specs.Looks.{AnswersLook, IsValueAt, TellsNoPlace}
 use Rattle.rds_http.specs.Refusals.{IsDenied, IsNotAllowed, IsUnknown, IsUnmet, IsUnmetAt}
 use Rattle.rds_http.specs.Routes.{asked_of, place_of}
 use Rattle.rds_http.specs.Site.{SiteValue}
@@ -87,7 +87,7 @@ DoesPostUnless false post body old response new = DoesPost post body old respons
 -- what a body that is sent for a place is answered, and what it makes of the document
 abbrev pub DoesChange : Change → List ℕ → List ℕ → SiteValue → Response → SiteValue → Type 0
 DoesChange Changed.Edits place body old response new = DoesPost Edits body old response new
-DoesChange Changed.Set place body old response new = SetsAt place body old.document new.document response
+DoesChange Changed.Set place body old response new = AnswersPut place body old.document new.document response
 
 -- that is done where what stands there meets the conditions of the request. Else that is told, and nothing is done
 abbrev pub DoesChangeIf : Bool → Change → List ℕ → List ℕ → SiteValue → Response → SiteValue → Type 0
@@ -99,7 +99,7 @@ abbrev pub DoesChangeAt : Change → List ℕ → Entries FieldValue → List �
 DoesChangeAt change place headers body old response new =
     ((text : List ℕ) × IsValueAt old.document.state place text
     × DoesChangeIf (is_met headers (standing text)) change place body old response new)
-    ⊎ ((new ≡ old) × RefusesAt place response)
+    ⊎ ((new ≡ old) × TellsNoPlace place response)
 
 -- what a request that is let in is answered, by what it asks for and the place that it names
 abbrev pub Does : Asked → List ℕ → SiteValue → Request (List ℕ) → Response → SiteValue → Type 0

@@ -59,22 +59,22 @@ AnswersEdits body before after response =
 -- ---- a register that is put
 
 -- the value that a body of JSON is, which is no longer than a line
-abbrev pub value_in : List ℕ → Result Scalar Fault
-value_in body = if is_text_line body then of_one scalar_of (read body) else Err BadLine
+abbrev pub body_value : List ℕ → Result Scalar Fault
+body_value body = if is_text_line body then of_one scalar_of (read body) else Err BadLine
 
 -- the edit that sets the register at a place to that
-abbrev pub set_in : List ℕ → List ℕ → Result Command Fault
-set_in place body = path_in place >>= λ text. path_of text >>= λ path. value_in body >>= λ value. Ok (Set path value)
+abbrev pub put_command : List ℕ → List ℕ → Result Command Fault
+put_command place body = path_in place >>= λ text. path_of text >>= λ path. body_value body >>= λ value. Ok (Set path value)
 
 -- that is done or refused, unless memory ran out
-abbrev pub MeetsSet : List ℕ → List ℕ → ReplicaValue → Reply → ReplicaValue → Type 0
-MeetsSet place body before reply after =
-    IsLineRefused 1 Memory before reply after ⊎ MeetsCommand 1 (set_in place body) before reply after
+abbrev pub MeetsPut : List ℕ → List ℕ → ReplicaValue → Reply → ReplicaValue → Type 0
+MeetsPut place body before reply after =
+    IsLineRefused 1 Memory before reply after ⊎ MeetsCommand 1 (put_command place body) before reply after
 
 -- and answered as the one line of a body is
-pub record SetsAt (place body : List ℕ) (before after : ReplicaValue) (response : Response) : Type 0 where
+pub record AnswersPut (place body : List ℕ) (before after : ReplicaValue) (response : Response) : Type 0 where
   pub reply : Reply
-  pub met : MeetsSet place body before reply after
+  pub met : MeetsPut place body before reply after
   pub told : Tells (lines_status (reply ∷ [])) lines_of_json (replies_text (reply ∷ [])) response
 
 -- ---- growths

@@ -76,15 +76,15 @@ IsNoPlace place fault =
     (path_in place ≡ Err fault) ⊎ ((path : List ℕ) × (path_in place ≡ Ok path) × RefusesPlace path fault)
 
 -- the fault why nothing is told of a place, or want of memory, is told
-abbrev pub RefusesAt : List ℕ → Response → Type 0
-RefusesAt place response =
+abbrev pub TellsNoPlace : List ℕ → Response → Type 0
+TellsNoPlace place response =
     (fault : Fault) × ((fault ≡ Memory) ⊎ IsNoPlace place fault) × TellsFault fault response
 
 -- what stands at a place is told, with a tag of its own
 abbrev pub ShowsValue : Entries FieldValue → StateValue → List ℕ → Response → Type 0
 ShowsValue headers state place response =
     ((text : List ℕ) × IsValueAt state place text × TellsOf headers (text_tag text) json text response)
-    ⊎ RefusesAt place response
+    ⊎ TellsNoPlace place response
 
 -- the text is JSON, of some value
 abbrev pub IsJson : List ℕ → Type 0

@@ -100,8 +100,8 @@ abbrev pub asked_of : List ℕ → List ℕ → Asked
 asked_of method path = asked_with method (resource_of path)
 
 -- to edit the document, or to put a name in its roster
-abbrev pub is_edit : Asked → Bool
-is_edit (Ask.Post Edits) = true
-is_edit (Ask.Post Grow) = true
-is_edit (Ask.Change change) = true
-is_edit _ = false
+abbrev pub is_own_change : Asked → Bool
+is_own_change (Ask.Post Edits) = true
+is_own_change (Ask.Post Grow) = true
+is_own_change (Ask.Change change) = true
+is_own_change _ = false

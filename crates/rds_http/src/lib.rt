@@ -30,5 +30,5 @@ pub use access::Access;
 pub use asked::LONGEST_QUESTION;
 pub use metrics::{PeerCounts, PeerStanding};
 pub use rds_store::Lacks;
-pub use routes::is_edit;
+pub use routes::is_own_change;
 pub use site::Site;

@@ -6,7 +6,7 @@ ghost use Rattle.rds_json.specs.Members.{of_one};
 ghost use Rattle.rds_json.specs.Scalar.{scalar_of};
 ghost use Rattle.rds_lines.specs.Editing.{line_reply_of};
 ghost use Rattle.rds_output.specs.Reply.{is_refusal};
-ghost use Rattle.rds_http.specs.Changes.{MeetsSet, SetsAt, set_in, value_in};
+ghost use Rattle.rds_http.specs.Changes.{AnswersPut, MeetsPut, body_value, put_command};
 ghost use Rattle.rds_http.specs.Site.{ChangesAreNoted, KeepsFile};
 ghost use Rattle.serde_json.specs.Read.{read};
 
@@ -40,7 +40,7 @@ pub fn put<H: Disk>(
     requires blank { IsBlank response.old }
     requires noted { ChangesAreNoted held.old.has_changed held.old.file.document held.old.file.kept }
     ensures answered { OnOk result
-        (SetsAt place.now body.now held.old.file.document held.new.file.document response.new) }
+        (AnswersPut place.now body.now held.old.file.document held.new.file.document response.new) }
     ensures noted { ChangesAreNoted held.new.has_changed held.new.file.document held.new.file.kept }
     ensures file { KeepsFile held.old.file held.new.file }
     ensures refused { OnOk result (response.new.status ≢ 200 → held.new ≡ held.old) }
@@ -57,7 +57,7 @@ pub fn put<H: Disk>(
 /// Sets the register at a place, and answers that, or why it is refused, as a line.
 fn put_in<H: Disk>(alloc: Global, held: &mut Held<'_, H>, place: &[u8], body: &[u8]) -> Reply
     requires noted { ChangesAreNoted held.old.has_changed held.old.file.document held.old.file.kept }
-    ensures met { MeetsSet place.now body.now held.old.file.document result held.new.file.document }
+    ensures met { MeetsPut place.now body.now held.old.file.document result held.new.file.document }
     ensures noted { ChangesAreNoted held.new.has_changed held.new.file.document held.new.file.kept }
     ensures file { KeepsFile held.old.file held.new.file }
     ensures refused { is_refusal result ≡ true → held.new ≡ held.old }
@@ -76,30 +76,30 @@ fn set<H: Disk>(
     body: &[u8],
 ) -> Result<Reply, Fault>
     requires noted { ChangesAreNoted held.old.has_changed held.old.file.document held.old.file.kept }
-    ensures met { MeetsSet place.now body.now held.old.file.document (line_reply_of 1 result) held.new.file.document }
+    ensures met { MeetsPut place.now body.now held.old.file.document (line_reply_of 1 result) held.new.file.document }
     ensures noted { ChangesAreNoted held.new.has_changed held.new.file.document held.new.file.kept }
     ensures file { KeepsFile held.old.file held.new.file }
     ensures done { IfOk result (λ reply. is_refusal reply ≡ false) }
     ensures err { OnErr result (held.new ≡ held.old) }
 {
-    let command = set_in(alloc, place, body)?;
+    let command = put_command(alloc, place, body)?;
     let edited = held.file.edit_by(&command)?;
     held.has_changed = true;
     Ok(Reply::of_edit(held.file.roster(), &edited))
 }
 
 /// The edit that sets the register at a place to the value that a body is.
-fn set_in(alloc: Global, place: &[u8], body: &[u8]) -> Result<Command, Fault>
-    ensures { MayGive result (set_in place.now body.now) }
+fn put_command(alloc: Global, place: &[u8], body: &[u8]) -> Result<Command, Fault>
+    ensures { MayGive result (put_command place.now body.now) }
 {
     let path = Path::new(alloc, &path_in(alloc, place)?)?;
-    Ok(Command::Set(path, value_in(alloc, body)?))
+    Ok(Command::Set(path, body_value(alloc, body)?))
 }
 
 /// The value that a body of JSON is. One that is none is refused (`BadLine`), and so is one that is no scalar
 /// (`BadScalar`).
-fn value_in(alloc: Global, body: &[u8]) -> Result<Scalar, Fault>
-    ensures { MayGive result (value_in body.now) }
+fn body_value(alloc: Global, body: &[u8]) -> Result<Scalar, Fault>
+    ensures { MayGive result (body_value body.now) }
 {
     if LONGEST < body.len() {
         return Err(Fault::BadLine);

@@ -4,7 +4,7 @@ ghost use Rattle.std.specs.List.{prefix_len};
 ghost use Rattle.rds_http.specs.Routes.{
   asked_of,
   asked_with,
-  is_edit,
+  is_own_change,
   is_in_name,
   is_put,
   is_reading,
@@ -121,8 +121,8 @@ pub fn route_of<'a>(method: &[u8], path: &'a [u8]) -> Route<'a>
 }
 
 /// Whether a request of this method and this path is to edit the document, or to put a name in its roster.
-pub fn is_edit(method: &[u8], path: &[u8]) -> bool
-    ensures { result ≡ is_edit (asked_of method.now path.now) }
+pub fn is_own_change(method: &[u8], path: &[u8]) -> bool
+    ensures { result ≡ is_own_change (asked_of method.now path.now) }
 {
     let route = route_of(method, path);
     matches!(

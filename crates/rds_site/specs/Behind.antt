@@ -5,12 +5,12 @@ use Rattle.http_server.specs.declared.response.Response.{Response}
 use Rattle.rds_http.specs.Answers.{Answers, asked_in}
 use Rattle.rds_http.specs.Refusals.{json}
 use Rattle.rds_http.specs.Replies.{Tells}
-use Rattle.rds_http.specs.Routes as routes
+use Rattle.rds_http.specs.Routes.{is_own_change}
 use Rattle.rds_http.specs.Site.{SiteValue}
 
 -- the request is to edit the document, or to put a name in its roster
 abbrev pub is_edit : Request (List ℕ) → Bool
-is_edit request = routes.is_edit (asked_in request)
+is_edit request = is_own_change (asked_in request)
 
 -- the fault is told
 abbrev pub TellsBehind : Response → Type 0

@@ -25,7 +25,7 @@ const REFUSAL: &[u8] =
 pub fn is_edit(request: &Request<Bytes>) -> bool
     ensures { result ≡ is_edit request.now }
 {
-    rds_http::is_edit(
+    rds_http::is_own_change(
         request.method().as_str().as_bytes(),
         request.uri().path().as_bytes(),
     )
