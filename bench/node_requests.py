@@ -17,14 +17,15 @@ from plain_texts import tag_of
 from serving import HOST, LIMIT, NOBODY, TOKEN, UPGRADE, Node, Noted, killed, listener, running, soon, want
 
 # A request, and below it the status, the kind of content and the body that are due. '|' ends a line of a body, and
-# '..' is anything.
+# '..' is anything. A line with four spaces before it goes on where the last one ended.
 REQUESTS = """
 GET /doc
   200 json {"counters":{},"maps":{},"regs":{},"sets":{}}
 POST /edits ["set","apples/price",3]|["add","apples/tags","red"]||["inc","apples",10]|
   200 x-ndjson {"dot":["a",1],"killed":0}|{"dot":["a",2],"killed":0}|{"dot":null,"killed":0}|
 GET /doc
-  200 json {"counters":{"apples":10},"maps":{"apples":{"maps":{},"regs":{"price":[3]},"sets":{"tags":["red"]}}},"regs":{},"sets":{}}
+  200 json {"counters":{"apples":10},
+    "maps":{"apples":{"maps":{},"regs":{"price":[3]},"sets":{"tags":["red"]}}},"regs":{},"sets":{}}
 GET /doc/apples
   200 json {"maps":{},"regs":{"price":[3]},"sets":{"tags":["red"]}}
 GET /here
@@ -60,7 +61,8 @@ POST /edits
 GET /conflicts
   200 x-ndjson
 GET /status
-  200 json {"group":"g","own":"a","names":["a","b"],"live":2,"dead":1,"counters":1,"components":4,..,"peers":{"named":0,"met":0,"forked":0,"each":[]},"callers":{"forked":0},"behind":false}
+  200 json {"group":"g","own":"a","names":["a","b"],"live":2,"dead":1,"counters":1,"components":4,..,
+    "peers":{"named":0,"met":0,"forked":0,"each":[]},"callers":{"forked":0},"behind":false}
 HEAD /doc
   200 json
 HEAD /ask
@@ -97,7 +99,7 @@ POST /take oops
   400 json {"fault":..,"name":"..","text":".."}
 POST /take
   400 json {"fault":..,"name":"..","text":".."}
-"""
+""".replace("\n    ", "")
 
 # Who may come, at a node without a token and at one with it: a status, a request, and lines of its head.
 MAY_COME = """
@@ -425,12 +427,14 @@ def judge_matches(node):
                 judge(f"/edits with {lines}", edited, '200 x-ndjson {"dot":null,"killed":0}|')
         for shown in "*", "NOW", "W/NOW", f"{old}, NOW", f"NOW,{old}":
             lines = "If-None-Match: " + shown.replace("NOW", f'"{mark()}"'), "If-Match: *"
-            for answer in asked("/edits", edit, lines[0]), asked("/grow", b"a", lines[0]), asked("/edits", edit, *lines):
+            for target, body, heads in ("/edits", edit, lines[:1]), ("/grow", b"a", lines[:1]), ("/edits", edit, lines):
+                answer = asked(target, body, *heads)
                 with noted:
-                    judge(f"with {lines}", answer, unmet)
+                    judge(f"{target} with {heads}", answer, unmet)
         for shown in old, f"W/{old}", "NOW"[1:], "":
             with noted:
-                judge(f"if not {shown}", asked("/edits", edit, f"If-None-Match: {shown}"), '200 x-ndjson {"dot":null,"killed":0}|')
+                answer = asked("/edits", edit, f"If-None-Match: {shown}")
+                judge(f"if not {shown}", answer, '200 x-ndjson {"dot":null,"killed":0}|')
         for method, target in ("GET", "/doc"), ("POST", "/answer"):
             due = link.answer(node.text(method, target, b"oops" if method == "POST" else None)).status
             answer = link.answer(node.text(method, target, b"oops" if method == "POST" else None, f"If-Match: {old}"))

@@ -59,7 +59,8 @@ class Following:
 
 def listen(node, count):
     """Waits until so many listen to a node."""
-    soon(lambda: node.count("rds_listeners") == count, lambda: f"{node.count('rds_listeners')} of {count} listen", LIMIT)
+    listening = lambda: node.count("rds_listeners")
+    soon(lambda: listening() == count, lambda: f"{listening()} of {count} listen", LIMIT)
 
 
 def try_lines(asked, folder):

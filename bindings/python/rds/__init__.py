@@ -13,6 +13,13 @@ updates hold the same document.
     ...     store["apples/tags"].values, store["apples"].counter
     (['red'], 10)
 
+Nested mappings, as of JSON, go in by `update`, and a document comes out as plain values by `plain`:
+
+    >>> with Replica.new("settings", ["one"], "one") as one:
+    ...     edits = one.update({"log": {"level": "debug", "tags": ["x"]}})
+    ...     one.plain()
+    {'log': {'level': 'debug', 'tags': ['x']}}
+
 A replica may live in a file, which `rds_node` reads and writes too. It is locked while it is open:
 
     >>> import os, tempfile

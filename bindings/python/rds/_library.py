@@ -6,7 +6,7 @@ from ctypes import POINTER, Structure, c_char_p, c_int64, c_size_t, c_uint8, c_u
 from pathlib import Path
 from typing import Any, Dict, List
 
-OK, MEMORY, BAD_SCALAR, DEVICE, UNSURE, NO_ROOM = 0, 1, 5, 24, 29, 66
+OK, MEMORY, BAD_KEY, BAD_PATH, BAD_SCALAR, DEVICE, UNSURE, NO_ROOM, NOT_UTF8 = 0, 1, 3, 4, 5, 24, 29, 66, 67
 
 # The last number that a fault may have: only of these the library has words to give.
 LAST_FAULT = 63

@@ -6,11 +6,12 @@ import json
 import os
 import threading
 from ctypes import byref, c_size_t, c_uint64, create_string_buffer, string_at
-from typing import Any, Dict, Iterable, Iterator, List, NamedTuple, NoReturn, Optional, Tuple, Union, cast
+from typing import Any, Dict, Iterable, Iterator, List, Mapping, NamedTuple, NoReturn, Optional, Tuple, Union, cast
 
 from ._faults import RdsError, fault, refuse
 from ._library import BAD_SCALAR, DEVICE, LAST_FAULT, LIB, MEMORY, NO_ROOM, UNSURE, EditedSlot, FileSlot
 from ._nodes import Question, Synced, Tag, met
+from ._plain import edits_of, plain_of
 
 Scalar = Union[None, bool, int, str]
 """A value: None, a bool, a whole number of 64 bits with sign, or a text of at most 1,024 bytes."""
@@ -164,6 +165,48 @@ class Place:
         """
         shown: Dict[str, Any] = json.loads(self._replica._gives(self.path, LIB.rds_view, self._at, len(self._at)))
         return shown
+
+    def plain(self) -> Any:
+        """What stands here as a plain value: a map as a dict, else a set as a list, else a register as its value, else
+        a counter as its number. Where nothing stands it is an empty dict. Of a register with several values it is the
+        last, which is the same at all replicas; `conflicts` lists them.
+
+        >>> with Replica.new("g", ["a"], "a") as replica:
+        ...     edited = replica["apples/tags"].add("red"), replica["apples/price"].set(3)
+        ...     replica["apples"].plain(), replica["apples/tags"].plain(), replica["apples/price"].plain()
+        ({'price': 3, 'tags': ['red']}, ['red'], 3)
+        """
+        with self._replica._lock:
+            below = plain_of(self.show())
+            got = {} if below or not self.path else self._got()
+        if got.get("set") or got.get("reg"):
+            return got["set"] or got["reg"][-1]
+        return below if got.get("counter") is None else got["counter"]
+
+    def update(self, mapping: Mapping[str, Any]) -> List[Edit]:
+        """Puts a nested mapping in here, and gives the edits that this took. A scalar sets the register at its key, and
+        the values of a list, tuple or set are added as elements. What stands there already isn't edited; a register
+        with several values is, and has one then. Nothing is deleted, of any kind, and what is empty leaves nothing.
+
+        >>> with Replica.new("g", ["a"], "a") as replica:
+        ...     replica.update({"apples": {"price": 3, "tags": ["red"]}})
+        ...     replica["apples"].update({"price": 4, "tags": {"red"}}), replica.update(replica.plain())
+        [('set', 'apples/price', 3), ('add', 'apples/tags', 'red')]
+        ([('set', 'apples/price', 4)], [])
+
+        What a document can't hold is told by its path, as a float is by `TypeError`, before anything is changed. No
+        number changes a counter: one that the counter doesn't stand at sets a register beside it.
+        """
+        if not isinstance(mapping, Mapping):
+            raise TypeError(f"what is put in is a mapping, and not {type(mapping).__name__}")
+        with self._replica._lock:
+            edits = list(edits_of(mapping, self.show(), self.path))
+            done = self._replica.edit(edits) if edits else []
+        # All was looked at, so nothing is refused but dots beyond the last one that a replica has.
+        for refused in done:
+            if isinstance(refused, RdsError):
+                raise refused
+        return edits
 
     def conflicts(self) -> Dict[str, List[Scalar]]:
         """The registers here and below that have several values, by their paths from the root."""
@@ -399,6 +442,14 @@ class Replica:
     def show(self) -> Dict[str, Any]:
         """What the whole document shows."""
         return self[""].show()
+
+    def plain(self) -> Dict[str, Any]:
+        """The whole document as a plain dict, counters too, by the rules of `Place.plain`."""
+        return plain_of(self.show())
+
+    def update(self, mapping: Mapping[str, Any]) -> List[Edit]:
+        """Puts a mapping in at the root, as `Place.update` does below it, and gives the edits that this took."""
+        return self[""].update(mapping)
 
     def conflicts(self) -> Dict[str, List[Scalar]]:
         """The registers that have several values, by their paths."""

@@ -67,6 +67,16 @@ def test_calls_wait_for_each_other(shop: Replica) -> None:
         assert again.show() == shop.show()
 
 
+def test_updates_wait_for_each_other(shop: Replica) -> None:
+    made: List[int] = []
+    for at in range(20):
+        mapping = {"r": {f"k{number}": at for number in range(50)}, "s": [at, f"{at}"]}
+        on_threads(*(lambda: made.append(len(shop.update(mapping))) for _ in range(THREADS)))
+    # Of each round one thread made all edits, and the others found that they stand there.
+    assert sorted(made) == [0] * 20 * (THREADS - 1) + [52] * 20
+    assert shop["r"].plain() == {f"k{number}": 19 for number in range(50)}
+
+
 def test_a_fault_has_its_own_words(shop: Replica) -> None:
     def refused(path: str, words: str) -> None:
         for _ in range(TIMES):

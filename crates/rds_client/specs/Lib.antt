@@ -1,3 +1,2 @@
 pub mod Destinations
 pub mod Troubles
-pub mod Visits

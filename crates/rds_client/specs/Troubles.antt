@@ -6,7 +6,7 @@ use Rattle.rds_names.specs.declared.fault.Fault.TheVariants as faults
 use Rattle.rds_client.specs.declared.troubles.Standing.{Standing}
 use Rattle.rds_client.specs.declared.troubles.Standing.TheVariants as standings
 use Rattle.rds_client.specs.declared.troubles.Trouble.{Trouble}
-use Rattle.rds_client.specs.declared.troubles.Trouble.TheVariants.{Memory, System, Ended, Silence, Garbled, Unframed, Foreign, TooLong, Refused, Unfit}
+use Rattle.rds_client.specs.declared.troubles.Trouble.TheVariants.{Memory, System, Ended, Silence, Slow, Garbled, Unframed, Foreign, TooLong, Refused, Unfit}
 
 -- the fault that it is for who met the node
 abbrev pub fault_of : Trouble → Fault
@@ -14,6 +14,7 @@ fault_of Memory = faults.Memory
 fault_of (System error) = faults.Device
 fault_of Ended = faults.PeerEnded
 fault_of (Silence seconds) = faults.Device
+fault_of (Slow moved seconds) = faults.Device
 fault_of (Garbled error) = faults.OutOfTurn
 fault_of (Unframed error) = faults.OutOfTurn
 fault_of Foreign = faults.OutOfTurn

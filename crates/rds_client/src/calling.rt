@@ -54,7 +54,7 @@ impl Patience {
         self.moved = self.moved.saturating_add(count as u64);
     }
 
-    // How long the next call may take, or that it may take any time. `Silence` where no time is left.
+    // How long the next call may take, or that it may take any time. `Slow` where no time is left.
     fn wait<C: Clock>(&self, clock: &C) -> Result<Option<Duration>, Trouble> {
         let Some(limit) = self.limit else {
             return Ok(None);
@@ -62,7 +62,10 @@ impl Patience {
         let spent = limit.began.elapsed(clock)?;
         match limit.whole(self.moved).checked_sub(spent) {
             Some(left) if !left.is_zero() => Ok(Some(limit.timeout.min(left))),
-            _ => Err(Trouble::Silence(limit.timeout.as_secs())),
+            _ => Err(Trouble::Slow {
+                moved: self.moved,
+                seconds: spent.as_secs(),
+            }),
         }
     }
 

@@ -48,6 +48,8 @@ pub enum Trouble {
     Ended,
     /// For so many seconds nothing went or came, or too little.
     Silence(u64),
+    /// So many bytes went and came in all the time that there was for them.
+    Slow { moved: u64, seconds: u64 },
     /// A response is none of HTTP/1.1.
     Garbled(ReadError),
     /// What comes over a connection that was handed over is no WebSocket (RFC 6455).
@@ -198,7 +200,7 @@ impl Trouble {
     {
         match self {
             Trouble::Memory => Fault::Memory,
-            Trouble::System(_) | Trouble::Silence(_) => Fault::Device,
+            Trouble::System(_) | Trouble::Silence(_) | Trouble::Slow { .. } => Fault::Device,
             Trouble::Ended | Trouble::Refused(_) => Fault::PeerEnded,
             Trouble::Garbled(_) | Trouble::Unframed(_) | Trouble::Foreign => Fault::OutOfTurn,
             Trouble::TooLong => Fault::TooLong,
@@ -233,6 +235,9 @@ impl fmt::Display for Trouble {
             Trouble::Ended => f.write_str("lost: it ended the connection"),
             Trouble::Silence(seconds) => {
                 write!(f, "lost: nothing or too little in {seconds} seconds")
+            }
+            Trouble::Slow { moved, seconds } => {
+                write!(f, "lost: too slow: {moved} bytes in {seconds} seconds")
             }
             Trouble::Garbled(error) => write!(f, "lost: its response is no HTTP/1.1: {error}"),
             Trouble::Unframed(error) => write!(f, "lost: what it says is no WebSocket: {error}"),

@@ -1,6 +1,6 @@
 //! A file that meets a node over that one's HTTP: each takes what it lacks.
 ghost use Rattle.std.specs.Prelude.{◌≡◌, IfOk, IfSome, None, Some};
-ghost use Rattle.rds_client.specs.Visits.{IsBrought};
+ghost use Rattle.rds_offline.specs.Letters.{IsBrought};
 
 use crate::calling::{Caller, caller_of, name_in};
 use crate::requests::{Head, NOT_MODIFIED, Request, Resource, Response};

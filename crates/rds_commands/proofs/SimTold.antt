@@ -10,7 +10,7 @@ use Rattle.rds_lines.specs.Sim.{IsSimOutput, MayBeSimulated}
 use Rattle.rds_lines.specs.Streams.{NoneFailed, Stream, Emits}
 use Rattle.rds_lines.proofs.Spent.{unread}
 use Rattle.rds_output.specs.Output.{Writes, fault_line}
-use Rattle.rds_words.specs.Task.{words_of}
+use Rattle.rds_words.specs.Task.{task_words}
 use Rattle.rds_words.specs.declared.tasks.Task.{Task}
 use Rattle.rds_commands.specs.Told.{MayWriteNamed, RunsSim, WritesSim, WritesTask}
 
@@ -49,6 +49,6 @@ task_is found task named is are = of_some task named (sym is ∙ are)
     of_some task named e = cc
 
 -- what is written for the task that was found is written for its words
-pub task_written : (found : Option Task) (task : Task) (named : Option (List Text)) (reading : Stream) (a b : Option (List ℕ)) (status : ℕ) → found ≡ Some task → option_map words_of found ≡ named → WritesTask task reading a b status
+pub task_written : (found : Option Task) (task : Task) (named : Option (List Text)) (reading : Stream) (a b : Option (List ℕ)) (status : ℕ) → found ≡ Some task → option_map task_words found ≡ named → WritesTask task reading a b status
     → MayWriteNamed named reading a b status
-task_written found task named reading a b status is words h = subst (λ (n : Option (List Text)). MayWriteNamed n reading a b status) (ap (option_map words_of) (sym is) ∙ words) (inr (task, refl, h))
+task_written found task named reading a b status is words h = subst (λ (n : Option (List Text)). MayWriteNamed n reading a b status) (ap (option_map task_words) (sym is) ∙ words) (inr (task, refl, h))

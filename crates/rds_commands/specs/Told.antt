@@ -75,7 +75,7 @@ use Rattle.rds_session.specs.declared.talk.Side.{Side}
 use Rattle.rds_session.specs.declared.talk.Side.TheVariants.{Client, Server}
 use Rattle.rds_session.specs.declared.version.Version.TheVariants.{Five}
 use Rattle.rds_words.specs.Meaning.{IsAmount, names_for}
-use Rattle.rds_words.specs.Task.{words_of}
+use Rattle.rds_words.specs.Task.{task_words}
 use Rattle.rds_commands.specs.Unparsed.{WritesUnparsed}
 use Rattle.rds_commands.specs.Visits.{WritesVisit, is_site}
 use Rattle.rds_words.specs.declared.help.TheConstants.{FAULTS_TEXT, FILES_TEXT}
@@ -294,7 +294,7 @@ WritesTask task reading before after status =
 abbrev pub WritesNamed : Option (List Text) → Stream → Option (List ℕ) → Option (List ℕ) → ℕ → Type 0
 WritesNamed None reading before after status = Writes (Err Usage) before after status
 WritesNamed (Some words) reading before after status =
-    (task : Task) × (words_of task ≡ words) × WritesTask task reading before after status
+    (task : Task) × (task_words task ≡ words) × WritesTask task reading before after status
 
 -- the same, or that there was no memory to read the words
 abbrev pub MayWriteNamed : Option (List Text) → Stream → Option (List ℕ) → Option (List ℕ) → ℕ → Type 0

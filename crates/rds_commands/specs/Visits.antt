@@ -1,10 +1,9 @@
 -- What is told of a file that meets a site.
-use Rattle.std.specs.Prelude.{◌≡◌, ◌⊎◌, ℕ, Bool, List, [], ◌++◌, codes, Option, Some, None, IfSome}
+use Rattle.std.specs.Prelude.{◌≡◌, ℕ, Bool, List, [], ◌++◌, codes, Option, Some, None, IfSome}
 use Rattle.std.specs.Io.KnownBytes.{Appends}
 use Rattle.rds_names.specs.declared.fault.Fault.{Fault}
-use Rattle.rds_files.specs.Files.{ReplacedValue}
 use Rattle.rds_files.specs.Holders.{begins_with}
-use Rattle.rds_offline.specs.Letters.{TakesFile}
+use Rattle.rds_offline.specs.Letters.{IsBrought}
 use Rattle.rds_output.specs.Output.{fault_line, fault_status}
 use Rattle.rds_output.specs.Reply.{reply_line}
 use Rattle.rds_output.specs.declared.reply.Reply.TheVariants.{Taken}
@@ -12,16 +11,6 @@ use Rattle.rds_output.specs.declared.reply.Reply.TheVariants.{Taken}
 -- the address is that of a site
 abbrev pub is_site : List ℕ → Bool
 is_site addr = begins_with addr (codes "http://")
-
--- the file at a path took so many components of an answer to its question, and keeps them
-abbrev pub TakesAnswer : List ℕ → ℕ → Type 0
-TakesAnswer path components =
-    (question : List ℕ) × (answer : List ℕ) × (file : ReplacedValue) × (forked : Bool)
-    × TakesFile path question answer file components forked
-
--- so many components were taken by the file at a path: none, since nothing was lacking, or those of an answer
-abbrev pub IsBrought : List ℕ → ℕ → Type 0
-IsBrought path components = (components ≡ 0) ⊎ TakesAnswer path components
 
 -- how many components were taken, where an answer was judged
 abbrev pub taken_text : Option ℕ → List ℕ

@@ -280,6 +280,10 @@ pub fn note_conflicts<H: Disk>(rt: &H, file: &ReplicaFile<'_, GapSet>, text: &st
 /// Tells that the words of a command don't go together.
 pub fn note_together<H: Eprint>(rt: &H, command: &str) {
     let _ = match command {
+        "init" => eprintln!(rt;
+            "init takes FILE, GROUP, OWN and all NAMES, OWN among them; or FILE, OWN and --from FILE"
+        ),
+        "get" => eprintln!(rt; "get takes one of --reg, --set and --counter"),
         "clear" => eprintln!(rt; "clear takes a PATH, or --all for the whole document"),
         _ => eprintln!(rt; "these words don't go together: 'rds_node help COMMAND' says which do"),
     };

@@ -1,6 +1,6 @@
 //! Sites, which are run, met and called by commands, and made above this crate.
 ghost use Rattle.std.specs.Prelude.{IfSome};
-ghost use Rattle.rds_commands.specs.Visits.{IsBrought};
+ghost use Rattle.rds_offline.specs.Letters.{IsBrought};
 
 use rds_names::{Fault, Path};
 use rds_words::{RunWords, SyncWords, WatchWords};

@@ -127,3 +127,15 @@ pub const PEER_EXCHANGE_AGE: Family = Family {
     kind: "gauge",
     help: "How long ago an exchange with the node went through.",
 };
+
+pub const PEER_COMING: Family = Family {
+    name: "rds_peer_coming_bytes",
+    kind: "gauge",
+    help: "Bytes that have come of an answer of the node that isn't whole.",
+};
+
+pub const PEER_GOING: Family = Family {
+    name: "rds_peer_going_bytes",
+    kind: "gauge",
+    help: "Bytes that wait to go to the node.",
+};

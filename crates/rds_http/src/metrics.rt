@@ -3,9 +3,9 @@ ghost use Rattle.std.specs.Prelude.{◌≡◌, IfOk, string_bytes};
 ghost use Rattle.rds_http.specs.Looks.{IsJson};
 
 use crate::families::{
-    BEHIND, CALLER_FORKS, CLIENTS, EDITS, EDITS_REFUSED, LISTENERS, LIVE_ENTRIES,
-    PEER_EXCHANGE_AGE, PEER_EXCHANGES, PEER_MET, PEER_REFUSALS, PEERS, PEERS_FORKED, PEERS_MET,
-    REQUESTS, SYNCS, TAKES,
+    BEHIND, CALLER_FORKS, CLIENTS, EDITS, EDITS_REFUSED, LISTENERS, LIVE_ENTRIES, PEER_COMING,
+    PEER_EXCHANGE_AGE, PEER_EXCHANGES, PEER_GOING, PEER_MET, PEER_REFUSALS, PEERS, PEERS_FORKED,
+    PEERS_MET, REQUESTS, SYNCS, TAKES,
 };
 use crate::site::Site;
 use rds_files::Disk;
@@ -43,6 +43,10 @@ pub struct PeerStanding {
     pub ago: Option<u64>,
     /// Why the last exchange that didn't go through broke off, where one did.
     pub why: Option<String>,
+    /// How many bytes have come of an answer that isn't whole.
+    pub coming: u64,
+    /// How many bytes of a request the system hasn't taken yet.
+    pub going: u64,
 }
 
 /// What was counted since the start. A full count stays.
@@ -183,7 +187,16 @@ fn standing_value(alloc: Global, standing: &PeerStanding) -> Result<Value, Alloc
     };
     let name = standing.name.as_str();
     let is_met = standing.is_met;
-    json!(in alloc; {"name": name, "met": is_met, "ago": ago, "why": why})
+    let coming = standing.coming;
+    let going = standing.going;
+    json!(in alloc; {
+        "name": name,
+        "met": is_met,
+        "ago": ago,
+        "why": why,
+        "coming": coming,
+        "going": going
+    })
 }
 
 /// Adds the lines of the other nodes.
@@ -206,8 +219,8 @@ fn push_peers(text: &mut String, peers: PeerCounts) -> Result<(), AllocError> {
     BEHIND.push(text, u64::from(is_behind))
 }
 
-/// Adds the lines of each of the other nodes, whose names have no quotes: whether it was met when it was called last, and
-/// how long ago an exchange with it went through.
+/// Adds the lines of each of the other nodes, whose names have no quotes: whether it was met when it was called last, how
+/// long ago an exchange with it went through, and how much of one is under way.
 fn push_standings(text: &mut String, standings: &[PeerStanding]) -> Result<(), AllocError> {
     PEER_MET.push_head(text)?;
     for standing in standings {
@@ -224,6 +237,18 @@ fn push_standings(text: &mut String, standings: &[PeerStanding]) -> Result<(), A
                 "rds_peer_exchange_age_seconds{{peer=\"{name}\"}} {seconds}"
             )?;
         }
+    }
+    PEER_COMING.push_head(text)?;
+    for standing in standings {
+        let name = standing.name.as_str();
+        let count = standing.coming;
+        writeln!(text, "rds_peer_coming_bytes{{peer=\"{name}\"}} {count}")?;
+    }
+    PEER_GOING.push_head(text)?;
+    for standing in standings {
+        let name = standing.name.as_str();
+        let count = standing.going;
+        writeln!(text, "rds_peer_going_bytes{{peer=\"{name}\"}} {count}")?;
     }
     Ok(())
 }

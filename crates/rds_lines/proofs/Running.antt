@@ -11,7 +11,7 @@ use Rattle.rds_keep.specs.Parts.{AppendsFront}
 use Rattle.rds_lines.specs.Join.{JoinsTo, MayJoinTo}
 use Rattle.rds_output.specs.Output.{Writes, fault_line}
 use Rattle.rds_output.proofs.Failing.{failed_by}
-use Rattle.rds_lines.specs.Refusal.{fault_of}
+use Rattle.rds_lines.specs.Refusal.{refusal_fault}
 use Rattle.rds_lines.specs.Run.{WritesJoin, WritesJoinFront, IsJoinLine}
 use Rattle.rds_lines.specs.declared.refusal.Refusal.{Refusal}
 use Rattle.rds_lines.specs.declared.run.TheConstants.{MOST}
@@ -19,10 +19,10 @@ use Rattle.rds_lines.proofs.Fronts.{joins_whole, may_join_whole}
 
 -- why the front gives no text is why the whole gives none
 pub refused_line : (o : Option (List ℕ)) (front seen : List ℕ) (Steady : Type 0) (r : Result (String Global) Refusal) (e : Refusal)
-    → IfSome o (λ input. front ≡ take MOST input) → seen ≡ front → MayJoinTo seen (Err (fault_of e)) → r ≡ Err e → IfSome o (λ input. Steady → IsJoinLine input r)
+    → IfSome o (λ input. front ≡ take MOST input) → seen ≡ front → MayJoinTo seen (Err (refusal_fault e)) → r ≡ Err e → IfSome o (λ input. Steady → IsJoinLine input r)
 refused_line None front seen Steady r e h s j is = tt
 refused_line (Some input) front seen Steady r e h s j is = λ steady.
-    rw is (may_join_whole MOST input (Err (fault_of e)) (omega arith) (subst (λ (x : List ℕ). MayJoinTo x (Err (fault_of e))) (s ∙ h) j))
+    rw is (may_join_whole MOST input (Err (refusal_fault e)) (omega arith) (subst (λ (x : List ℕ). MayJoinTo x (Err (refusal_fault e))) (s ∙ h) j))
 
 -- the digits of the front's text are those of the whole's
 pub joined_line : (o : Option (List ℕ)) (front seen text given : List ℕ) (Steady : Type 0) (line : String Global)
@@ -40,7 +40,7 @@ line_written (Some input) a b line Steady before after status (Ok u) h w e s = �
     (Ok answer.0, inr answer.1, (subst (λ (t : List ℕ). Appends a b (t ++ 10 ∷ [])) answer.2 w, s))
 line_written (Some input) a b line Steady before after status (Err fault) h w e s = λ steady written. absurd (written (failed_by before before after refl e))
 
-pub fault_written : (o a b : Option (List ℕ)) (e : Refusal) (f : Fault) (Steady Written : Type 0) (status : ℕ) → f ≡ fault_of e → IfSome o (λ input. Steady → IsJoinLine input (Err e))
+pub fault_written : (o a b : Option (List ℕ)) (e : Refusal) (f : Fault) (Steady Written : Type 0) (status : ℕ) → f ≡ refusal_fault e → IfSome o (λ input. Steady → IsJoinLine input (Err e))
     → (Written → Writes (Err f) a b status)
     → IfSome o (λ input. Steady → Written → WritesJoin input a b status)
 fault_written None a b e f Steady Written status is h w = tt

@@ -3,5 +3,5 @@ use Rattle.rds_names.specs.declared.fault.Fault.{Fault}
 use Rattle.rds_lines.specs.declared.refusal.Refusal.{Refusal}
 use Rattle.rds_lines.specs.declared.refusal.Refusal.TheVariants.{Refused}
 
-abbrev pub fault_of : Refusal → Fault
-fault_of (Refused fault) = fault
+abbrev pub refusal_fault : Refusal → Fault
+refusal_fault (Refused fault) = fault

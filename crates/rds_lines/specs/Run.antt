@@ -7,7 +7,7 @@ use Rattle.rds_names.specs.declared.fault.Fault.TheVariants.{Device}
 use Rattle.rds_keep.specs.Parts.{AppendsFront, ConsumesAtMost}
 use Rattle.rds_lines.specs.Join.{JoinsTo, MayJoinTo}
 use Rattle.rds_output.specs.Output.{Writes, fault_line, output_of}
-use Rattle.rds_lines.specs.Refusal.{fault_of}
+use Rattle.rds_lines.specs.Refusal.{refusal_fault}
 use Rattle.rds_lines.specs.Streams.{NoneFailed, Stream, Emits}
 use Rattle.rds_lines.specs.declared.refusal.Refusal.{Refusal}
 use Rattle.rds_lines.specs.declared.run.TheConstants.{MOST}
@@ -36,4 +36,4 @@ pub record RunsJoin (reading writing : Stream) (status : ℕ) : Type 0 where
 abbrev pub IsJoinLine : List ℕ → Result (String Global) Refusal → Type 0
 IsJoinLine input answer = MatchResult answer
     (λ line. (text : List ℕ) × JoinsTo input (Ok text) × (string_bytes line ≡ encode_lower text))
-    (λ e. MayJoinTo input (Err (fault_of e)))
+    (λ e. MayJoinTo input (Err (refusal_fault e)))

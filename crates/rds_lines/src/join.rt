@@ -3,7 +3,7 @@ ghost use Rattle.std.specs.Prelude.{◌≡◌, ◌⊎◌, Ok, Err, IfOk, IfErr, 
 ghost use Rattle.rds_names.specs.declared.fault.Fault.TheVariants.{Memory};
 ghost use Rattle.rds_lines.specs.Join.{AfterBoth, LineRead, JoinedTo, JoinsTo, MayJoinTo};
 ghost use Rattle.rds_lines.specs.JoinLaws.{AnswersSpelled, IsJoinedOnce};
-ghost use Rattle.rds_lines.specs.Refusal.{fault_of};
+ghost use Rattle.rds_lines.specs.Refusal.{refusal_fault};
 
 use crate::lines::split_line;
 use crate::refusal::Refusal;
@@ -28,7 +28,7 @@ const LINE_LIMIT: usize = 536_870_912;
 /// roster begins the other; `Conflict`; `TooLong` for the text.
 pub fn join(alloc: Global, input: &[u8]) -> Result<Vec<u8>, Refusal>
     ensures { MatchResult result (λ v. JoinsTo input.now (Ok v.items))
-        (λ e. MayJoinTo input.now (Err (fault_of e))) }
+        (λ e. MayJoinTo input.now (Err (refusal_fault e))) }
 {
     let (line, rest) = split_line(input);
     let first: Replica<GapSet> = read_line(alloc, line)?;

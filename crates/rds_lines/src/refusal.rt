@@ -15,11 +15,11 @@ pub enum Refusal {
 }
 
 impl Refusal {
-    ghost use Rattle.rds_lines.specs.Refusal.{fault_of};
+    ghost use Rattle.rds_lines.specs.Refusal.{refusal_fault};
 
     /// The fault.
     pub fn fault(&self) -> Fault
-        ensures { result ≡ fault_of self.now }
+        ensures { result ≡ refusal_fault self.now }
     {
         match self {
             Refusal::Refused(fault) => *fault,

@@ -3,7 +3,7 @@ ghost use Rattle.std.specs.Prelude.{◌≡◌, ◌≢◌, ◌≤◌, ◌⊎◌, 
 ghost use Rattle.rds_names.specs.declared.fault.Fault.TheVariants.{Device};
 ghost use Rattle.rds_keep.specs.Parts.{ConsumesAtMost};
 ghost use Rattle.rds_lines.specs.Answering.{AnswersLines};
-ghost use Rattle.rds_lines.specs.Refusal.{fault_of};
+ghost use Rattle.rds_lines.specs.Refusal.{refusal_fault};
 ghost use Rattle.rds_lines.specs.Run.{RunsJoin, IsJoinLine};
 ghost use Rattle.rds_lines.specs.Sim.{MayBeSimulated};
 ghost use Rattle.rds_lines.specs.Streams.{NoneFailed, stream_of};
@@ -62,7 +62,7 @@ fn join_line<R: Read>(alloc: Global, reader: &mut Counted<R>) -> Result<String, 
     ensures line { IfSome (R.remaining reader.old.inner)
         (λ input. NoneFailed (stream_of R.remaining reader.old reader.new) → IsJoinLine input result) }
     ensures unread { reader.new.failed ≢ reader.old.failed
-        → IsErrAnd result (λ e. fault_of e ≡ Device) }
+        → IsErrAnd result (λ e. refusal_fault e ≡ Device) }
     ensures most { ConsumesAtMost (R.remaining reader.old.inner) (R.remaining reader.new.inner) MOST }
 {
     let input = reader.read_front(alloc, MOST)?;

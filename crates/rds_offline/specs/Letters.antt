@@ -84,6 +84,16 @@ pub record TakesFile (path question answer : List ℕ) (file : ReplacedValue) (c
   pub takes : TakesResponse question answer file.before file.kept components
   pub forks : IsTrue forked ↔ TellsFork file.kept takes.received
 
+-- the file at a path took so many components of an answer to its question, and keeps them
+abbrev pub TakesAnswer : List ℕ → ℕ → Type 0
+TakesAnswer path components =
+    (question : List ℕ) × (answer : List ℕ) × (file : ReplacedValue) × (forked : Bool)
+    × TakesFile path question answer file components forked
+
+-- so many components were taken by the file at a path: none, since nothing was lacking, or those of an answer
+abbrev pub IsBrought : List ℕ → ℕ → Type 0
+IsBrought path components = (components ≡ 0) ⊎ TakesAnswer path components
+
 -- why what was received isn't taken and kept: a take of it is refused, or the new replica has no tag or can't be kept
 abbrev pub RefusesTakeIn : QuestionValue → ReceivedValue → ReplicaValue → Fault → Type 0
 RefusesTakeIn asked received before fault =

@@ -1,13 +1,11 @@
 //! A connection with a peer.
 use crate::committed::Committed;
+use crate::patience::Wait;
 use crate::sockets::{Heard, Sent, Socket};
 use rds_client::{Destination, Request, Response, Talk, Trouble};
 use rds_files::Disk;
 use std::alloc::Global;
 use std::time::Instant;
-
-/// Within so many seconds a byte has to go, or a response to begin or to end, or enough of it to come.
-pub const PATIENCE: u64 = 30;
 
 /// So many bytes of a response are enough.
 const ENOUGH: usize = 1024;
@@ -23,8 +21,8 @@ const READS: u32 = 16;
 pub struct Channel {
     socket: Socket,
     talk: Talk,
-    // When a byte last went, or enough came; and how many bytes have come since.
-    since: Instant,
+    // Since when it lets wait: a byte went then, or enough came. How many bytes have come since.
+    wait: Wait,
     come: usize,
     heard: Heard,
     // Whether anything came since the last request.
@@ -37,16 +35,16 @@ impl Channel {
         Channel {
             socket,
             talk: Talk::new(alloc),
-            since: now,
+            wait: Wait::new(now),
             come: 0,
             heard: Heard::Part,
             is_answered: false,
         }
     }
 
-    /// Since when the peer lets wait: when a byte last went, or enough came.
-    pub fn since(&self) -> Instant {
-        self.since
+    /// How long the peer may let wait: for a byte that goes, a response that begins or ends, or enough of it.
+    pub fn wait(&self) -> Wait {
+        self.wait
     }
 
     /// Whether the peer is to be heard again without an event.
@@ -64,6 +62,11 @@ impl Channel {
         self.talk.room()
     }
 
+    /// How much of a request waits to be sent, in bytes.
+    pub fn going(&self) -> usize {
+        self.talk.output.len()
+    }
+
     /// Writes a request.
     pub fn request(
         &mut self,
@@ -72,7 +75,7 @@ impl Channel {
         now: Instant,
     ) -> Result<(), Trouble> {
         self.talk.request(destination, request)?;
-        self.since = now;
+        self.wait.renew(now);
         self.is_answered = false;
         Ok(())
     }
@@ -103,9 +106,10 @@ impl Channel {
     fn note(&mut self, count: usize, now: Instant) {
         self.come = self.come.saturating_add(count);
         if !self.is_answered || ENOUGH <= self.come {
-            self.since = now;
+            self.wait.renew(now);
             self.come = 0;
         }
+        self.wait.note_heard();
         self.is_answered = true;
     }
 
@@ -135,8 +139,8 @@ impl Channel {
     ) -> Option<Sent> {
         match self.socket.send_bytes(committed, &mut self.talk.output) {
             Ok(0) => Some(Sent::Gone),
-            Ok(_) => {
-                self.since = now;
+            Ok(count) => {
+                self.wait.note_taken(count, now);
                 if self.talk.output.is_empty() {
                     self.talk.clear_output();
                 }

@@ -1,6 +1,7 @@
 //! A client: its socket, and what it speaks.
 use crate::committed::Committed;
 use crate::listeners::Listener;
+use crate::patience::Wait;
 use crate::sockets::{Heard, Sent, Socket};
 use http_server::{Connection, Service, State};
 use rds_files::Disk;
@@ -9,8 +10,8 @@ use std::net::SocketAddr;
 use std::time::Instant;
 use std::{io, mem};
 
-/// A client has so many seconds for a whole request, and for taking a byte of its answer.
-const PATIENCE: u64 = 30;
+/// So many bytes of a request that isn't whole are enough for the client to be waited for anew. No head has as many.
+const ENOUGH: usize = 32_768;
 
 /// A listener to which nothing was sent for so many seconds is sent a ping.
 const QUIET: u64 = 20;
@@ -45,25 +46,39 @@ pub enum Next {
     Never,
 }
 
-/// How many bytes of a client were read since it was answered last, and the most that there ever were; whether what was
-/// answered last took long; and whether anything was answered.
+/// How many bytes of a client were read since it was answered last, how many of these when it was last waited for anew,
+/// and the most that there ever were; whether any were read since that was noted; whether what was answered last took
+/// long; and whether anything was answered.
 #[derive(Clone, Copy)]
 struct Load {
     unread: usize,
+    noted: usize,
     most: usize,
+    is_heard: bool,
     is_slow: bool,
     is_answered: bool,
 }
 
 impl Load {
     fn add(&mut self, count: usize) {
+        self.is_heard = true;
         self.unread = self.unread.saturating_add(count);
         self.most = self.most.max(self.unread);
+    }
+
+    // Whether enough has come since that was so last.
+    fn has_enough(&mut self) -> bool {
+        let is_enough = ENOUGH <= self.unread.saturating_sub(self.noted);
+        if is_enough {
+            self.noted = self.unread;
+        }
+        is_enough
     }
 
     // What was read is answered. Whether that took long is noted after it.
     fn clear(&mut self) {
         self.unread = 0;
+        self.noted = 0;
         self.is_slow = false;
         self.is_answered = true;
     }
@@ -94,8 +109,8 @@ pub struct Client {
     address: SocketAddr,
     socket: Socket,
     talk: Talk,
-    // When it last took a byte of an answer, or came.
-    since: Instant,
+    // Since when it lets wait: it last took a byte of an answer then, said enough of a request, or came.
+    wait: Wait,
     heard: Heard,
     load: Load,
     is_listed: bool,
@@ -115,11 +130,13 @@ impl Client {
             address,
             socket,
             talk: Talk::Http(connection),
-            since: now,
+            wait: Wait::new(now),
             heard: Heard::All,
             load: Load {
                 unread: 0,
+                noted: 0,
                 most: 0,
+                is_heard: false,
                 is_slow: false,
                 is_answered: false,
             },
@@ -143,18 +160,18 @@ impl Client {
         matches!(self.talk, Talk::Live(_))
     }
 
-    /// Whether it has made no whole request for too long, nor taken a byte of an answer. A listener may be silent, and
-    /// one that rests isn't heard.
+    /// Whether it has made no whole request for too long, nor enough of one, nor taken a byte of an answer. A listener may
+    /// be silent, and one that rests isn't heard.
     pub fn is_overdue(&self, now: Instant) -> bool {
         let may_wait = self.is_listener() || self.is_resting;
-        !may_wait && PATIENCE <= now.duration_since(self.since).as_secs()
+        !may_wait && self.wait.until() <= now
     }
 
     /// What it is at and since when, where it may be given up for another: it isn't told of changes.
     pub fn rank(&self) -> Option<Rank> {
         Some(Rank {
             stage: self.stage()?,
-            since: self.since,
+            since: self.wait.since(),
         })
     }
 
@@ -178,7 +195,7 @@ impl Client {
 
     /// Has it be sent a ping, where it is a listener to which nothing was sent for a while. Answers whether it is.
     pub fn ping(&mut self, now: Instant) -> bool {
-        let is_quiet = QUIET <= now.duration_since(self.since).as_secs();
+        let is_quiet = QUIET <= now.duration_since(self.wait.since()).as_secs();
         match &mut self.talk {
             Talk::Live(listener) => is_quiet && listener.ping(),
             Talk::Http(_) | Talk::Last => false,
@@ -215,7 +232,7 @@ impl Client {
     /// It rests no more.
     pub fn wake(&mut self, now: Instant) {
         self.is_resting = false;
-        self.since = now;
+        self.wait.renew(now);
     }
 
     /// Has the client be let go in its next turn.
@@ -247,6 +264,17 @@ impl Client {
             Talk::Live(listener) => listener.hear(&mut self.socket),
             Talk::Last => hear_out(&mut self.socket),
         };
+    }
+
+    /// Notes what was heard of it: it has got what was sent before, and where enough of a request has come it is waited for
+    /// anew.
+    pub fn note_heard(&mut self, now: Instant) {
+        if mem::replace(&mut self.load.is_heard, false) {
+            self.wait.note_heard();
+        }
+        if self.load.has_enough() {
+            self.wait.renew(now);
+        }
     }
 
     /// Notes a text for a listener. It is let go where too much waits for it already.
@@ -300,7 +328,7 @@ impl Client {
             }
             match self.send_once(committed) {
                 Ok(0) => return Sent::Gone,
-                Ok(_) => self.since = now,
+                Ok(count) => self.wait.note_taken(count, now),
                 Err(error) => {
                     if let Some(sent) = Sent::after(&error) {
                         return sent;

@@ -2,6 +2,7 @@
 use crate::channels::Channel;
 use crate::committed::Committed;
 use crate::levels::Level;
+use crate::patience::Wait;
 use rds_client::{DONE, Destination, End, NOT_MODIFIED, Request, Resource, Response, Trouble};
 use rds_fields::tag_text;
 use rds_files::{Disk, LockFile};
@@ -130,12 +131,17 @@ impl Exchange {
         self.channel.room()
     }
 
-    /// Since when the peer lets wait, where it does.
-    pub fn waiting_since(&self) -> Option<Instant> {
+    /// How much of a request waits to be sent, in bytes.
+    pub fn going(&self) -> usize {
+        self.channel.going()
+    }
+
+    /// How long the peer may let wait, where it does.
+    pub fn wait(&self) -> Option<Wait> {
         if self.is_resting() {
             None
         } else {
-            Some(self.channel.since())
+            Some(self.channel.wait())
         }
     }
 

@@ -1,7 +1,7 @@
 //! The loop of a node: a site that runs. One process and one thread hold a document in its file, and serve it over
 //! HTTP, and meet other nodes over theirs. Read `words`, `addresses`; then `committed`, `reserve`, `behind`, `forks`,
-//! `logging`, `sockets`, `listeners`, `clients`, `table`; then `schedule`, `channels`, `levels`, `exchanges`, `peers`,
-//! `peer_table`; then `arrivals`, `turns`, `running`.
+//! `logging`, `sockets`, `listeners`, `schedule`, `patience`, `clients`, `table`; then `channels`, `levels`,
+//! `exchanges`, `peers`, `peer_table`; then `arrivals`, `turns`, `running`.
 #![tactic(auto)]
 
 mod addresses;
@@ -15,6 +15,7 @@ mod forks;
 mod levels;
 mod listeners;
 mod logging;
+mod patience;
 mod peer_table;
 mod peers;
 mod reserve;

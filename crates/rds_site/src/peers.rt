@@ -1,8 +1,9 @@
 //! A peer: another node that this one meets.
-use crate::channels::{Channel, PATIENCE};
+use crate::channels::Channel;
 use crate::committed::Committed;
 use crate::exchanges::{Exchange, Progress};
-use crate::schedule::{Schedule, after};
+use crate::patience::Wait;
+use crate::schedule::Schedule;
 use crate::sockets::{Line, Socket};
 use rds_client::{Destination, End, FORKED, Standing, Trouble};
 use rds_files::{Disk, LockFile};
@@ -17,8 +18,8 @@ use std::time::{Duration, Instant};
 enum Link {
     /// There is none.
     Away,
-    /// It is being made, since an instant.
-    Opening(Socket, Instant),
+    /// It is being made.
+    Opening(Socket, Wait),
     /// There is one.
     Open(Exchange),
 }
@@ -101,6 +102,8 @@ impl<'a> Peer<'a> {
             is_met: self.standing == Standing::Met,
             ago: self.met.map(|met| now.duration_since(met).as_secs()),
             why,
+            coming: self.room() as u64,
+            going: self.going() as u64,
         })
     }
 
@@ -122,6 +125,14 @@ impl<'a> Peer<'a> {
         }
     }
 
+    // How much of a request waits to be sent, in bytes.
+    fn going(&self) -> usize {
+        match &self.link {
+            Link::Away | Link::Opening(..) => 0,
+            Link::Open(exchange) => exchange.going(),
+        }
+    }
+
     /// Lets it go, since its response takes too much room.
     pub fn give_up<H: Eprint + AllocGlobal>(&mut self, rt: &H, now: Instant) -> Outcome {
         self.fail(rt, Trouble::TooLong, now)
@@ -132,19 +143,19 @@ impl<'a> Peer<'a> {
         if self.is_listed {
             return Duration::ZERO;
         }
-        let next = match self.waiting_since() {
-            Some(since) => after(since, Duration::from_secs(PATIENCE)),
+        let next = match self.wait() {
+            Some(wait) => wait.until(),
             None => self.schedule.next(),
         };
         next.duration_since(now)
     }
 
-    // Since when it lets wait, where it does.
-    fn waiting_since(&self) -> Option<Instant> {
+    // How long it may let wait, where it does.
+    fn wait(&self) -> Option<Wait> {
         match &self.link {
             Link::Away => None,
-            Link::Opening(_, since) => Some(*since),
-            Link::Open(exchange) => exchange.waiting_since(),
+            Link::Opening(_, wait) => Some(*wait),
+            Link::Open(exchange) => exchange.wait(),
         }
     }
 
@@ -337,8 +348,10 @@ impl<'a> Peer<'a> {
         line: &Line<'_>,
         now: Instant,
     ) -> Result<(), Trouble> {
-        if self.is_overdue(now) {
-            return Err(Trouble::Silence(PATIENCE));
+        if let Some(wait) = self.wait() {
+            if wait.until() <= now {
+                return Err(Trouble::Silence(wait.seconds()));
+            }
         }
         if self.schedule.is_due(now) {
             self.call(rt, committed, line, now)?;
@@ -348,13 +361,6 @@ impl<'a> Peer<'a> {
             self.is_listed |= exchange.has_more();
         }
         Ok(())
-    }
-
-    fn is_overdue(&self, now: Instant) -> bool {
-        match self.waiting_since() {
-            Some(since) => PATIENCE <= now.duration_since(since).as_secs(),
-            None => false,
-        }
     }
 
     // Begins a connection where there is none. Its name may be looked up before, for which all waits.
@@ -375,7 +381,7 @@ impl<'a> Peer<'a> {
         found?;
         if let Some(address) = self.destination.address() {
             let socket = Socket::dial(rt, committed, address, line)?;
-            self.link = Link::Opening(socket, now);
+            self.link = Link::Opening(socket, Wait::new(now));
         }
         Ok(())
     }

@@ -47,8 +47,9 @@ use std::time::Instant;
 /// answered nothing yet, or else one that waits between two requests, or else one with a request or an answer under
 /// way. Of several it is the one that has got no byte of an answer for longest. Who is told of changes keeps its place,
 /// and where all are, the other one is let go. However many descriptors connections take, enough are left to keep the
-/// document. Each client has 30 seconds for a whole request, and to take a byte of an answer. A body has at most 64 MB,
-/// and what waits unread of all clients 256 MB: who sends more is let go. A listener for which 256 kB wait is let go,
+/// document. Each client has 30 seconds for a whole request or 32 kB more of it, and to take a byte of an answer; and
+/// a second more for each 16 kB that the system took of answers since it was last heard, 270 at most. A body has at
+/// most 64 MB, and what waits unread of all clients 256 MB: who sends more is let go. A listener for which 256 kB wait is let go,
 /// and one that was sent nothing for 20 seconds is sent a ping.
 ///
 /// Where the words ask for a log, standard output has a line for each request that the site was asked: the client's
@@ -60,7 +61,7 @@ use std::time::Instant;
 /// again after 1, 2, 4, and then each 8 seconds. Its name is looked up again where no connection could be made.
 /// Standard error has a line where that begins and ends, and `/status` says how each peer stands. The responses that
 /// are under way have at most 256 MB. Every 30 seconds a byte has to go, or 1 kB to come, or a response to begin or to
-/// end.
+/// end; behind much that the system took there is more time, as for clients.
 pub fn run_site<H: Disk + Net + RandomSource + Print>(rt: &H, words: &SiteWords<'_>) -> Fault
 where
     H::File: LockFile,

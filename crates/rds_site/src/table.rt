@@ -182,6 +182,7 @@ impl Clients {
         let Some(client) = self.table.get_mut(key) else {
             return;
         };
+        client.note_heard(ended);
         if self.rest.note(began, ended) {
             client.set_slow();
         } else if !client.is_slow() {

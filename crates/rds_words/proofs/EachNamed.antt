@@ -1,488 +1,277 @@
 -- The words of each task name it, where they are data or stand behind dashes.
-use Rattle.std.proofs.Common.{◌≡◌, ◌∙◌, List, [], ◌∷◌, ◌++◌, codes, Option, Some, None, refl, ap}
-use Rattle.std.specs.Prelude.{map, option_map}
+use Rattle.std.proofs.Common.{◌≡◌, ◌∙◌, List, [], ◌∷◌, ◌++◌, codes, length, map, option_map, Option, Some, None, refl, ap, inl, arith}
 use Rattle.std.specs.Borrow.{Bor}
+use Rattle.std.proofs.lemmas.Bool.{le-leb}
 use Rattle.clap.specs.Words.{Text, built}
 use Rattle.rds_words.specs.declared.tasks.Task.{Task}
 use Rattle.rds_words.specs.declared.tasks.Task.TheVariants.{Join, Sim, Files, Faults, Init, InitFrom, Grow, Edit, EditIfChanged, EditLines, Get, GetRaw, Show, ShowPretty, Dump, Compact, Status, Serve, Run, Sync, Pair, Ask, Answer, Take, Merge, Check, Conflicts, Diff, Watch}
 use Rattle.rds_words.specs.declared.tasks.EditWords.TheVariants.{Set, Add, Del, Clear, ClearAll, Inc, Dec}
+use Rattle.rds_words.specs.declared.tasks.RawKind.{RawKind}
+use Rattle.rds_words.specs.declared.tasks.RawKind.TheVariants as kind
 use Rattle.rds_words.specs.declared.tasks.ValueWord.TheVariants as word
 use Rattle.rds_words.specs.Commands.{node_app}
 use Rattle.rds_words.specs.Entered.{Names}
 use Rattle.rds_words.specs.Raw.{token_words}
-use Rattle.rds_words.specs.Task.{words_in, words_of}
+use Rattle.rds_words.specs.Spelling.{Count, IsGivenWords}
+use Rattle.rds_words.specs.Task.{raw_word, words_in, task_words}
 use Rattle.rds_words.specs.Written.{AreData, HasNames, IsWritable, words_dashed, words_written}
+use Rattle.rds_words.proofs.ClearPlan.{clear_plan, clear_takes}
 use Rattle.rds_words.proofs.CommandWords.{node_on_words}
 use Rattle.rds_words.proofs.Dashed.{Meets, undashed_fault, undashed_rows}
 use Rattle.rds_words.proofs.GrowNamed.{grow_dashed, grow_met}
-use Rattle.rds_words.proofs.OptionPlans.{add_takes, set_takes}
-use Rattle.rds_words.proofs.OptionsNamed.{all_cleared, changed_named, del_text_named, get_counter_named, get_raw_named, get_reg_named, get_set_named, init_dashed, init_from_named, pretty_named, run_dashed, run_named, serve_named, sync_named, text_changed_named, text_named, watch_named}
-use Rattle.rds_words.specs.declared.tasks.RawKind.TheVariants as kind
+use Rattle.rds_words.proofs.OptionPlans.{add_plan, add_takes, del_plan, del_takes, get_plan, get_takes, init_is, init_plan, init_takes, serve_plan, serve_takes, set_plan, set_takes, show_plan, show_takes, sync_plan, sync_takes}
+use Rattle.rds_words.proofs.OptionsNamed.{run_dashed, run_named}
+use Rattle.rds_words.proofs.PlainCommands.{answer_plain, ask_plain, check_plain, compact_plain, conflicts_plain, dec_plain, diff_plain, dump_plain, edit_lines_plain, faults_plain, files_plain, inc_plain, join_plain, merge_plain, pair_plain, sim_plain, status_plain, take_plain}
+use Rattle.rds_words.proofs.PlainForms.{IsPlain}
+use Rattle.rds_words.proofs.TypedNames.{alone, apart, joined, named, named_dashed, placed}
+use Rattle.rds_words.proofs.WatchPlan.{watch_plan, watch_takes}
 
 -- words that are data need no dashes
-undashed : (name command : Text) (words result : List Text) → Meets (built node_app) command → AreData words → Names (name ∷ command ∷ codes "--" ∷ words) result → Names (name ∷ command ∷ words) result
-unfolding node_on_words
-undashed name command words result meets are behind = (undashed_fault (built node_app) command words meets are ∙ behind.0, ap words_in (undashed_rows (built node_app) command words meets are) ∙ behind.1)
-
--- ---- behind dashes
-
-pub join_dashed : (name : Text) → Names (name ∷ codes "join" ∷ codes "--" ∷ []) (codes "join" ∷ [])
-unfolding node_on_words
-join_dashed name = (refl, refl)
-
-pub sim_dashed : (name : Text) → Names (name ∷ codes "sim" ∷ codes "--" ∷ []) (codes "sim" ∷ [])
-unfolding node_on_words
-sim_dashed name = (refl, refl)
-
-pub files_dashed : (name : Text) → Names (name ∷ codes "files" ∷ codes "--" ∷ []) (codes "files" ∷ [])
-unfolding node_on_words
-files_dashed name = (refl, refl)
-
-pub faults_dashed : (name : Text) → Names (name ∷ codes "faults" ∷ codes "--" ∷ []) (codes "faults" ∷ [])
-unfolding node_on_words
-faults_dashed name = (refl, refl)
-
-pub show_dashed : (name file path : Text) → Names (name ∷ codes "show" ∷ codes "--" ∷ file ∷ path ∷ []) (codes "show" ∷ file ∷ path ∷ [])
-unfolding node_on_words
-show_dashed name file path = (refl, refl)
-
-pub edit_lines_dashed : (name file : Text) → Names (name ∷ codes "edit" ∷ codes "--" ∷ file ∷ []) (codes "edit" ∷ file ∷ [])
-unfolding node_on_words
-edit_lines_dashed name file = (refl, refl)
-
-pub get_dashed : (name file path : Text) → Names (name ∷ codes "get" ∷ codes "--" ∷ file ∷ path ∷ []) (codes "get" ∷ file ∷ path ∷ [])
-unfolding node_on_words
-get_dashed name file path = (refl, refl)
-
-pub compact_dashed : (name file : Text) → Names (name ∷ codes "compact" ∷ codes "--" ∷ file ∷ []) (codes "compact" ∷ file ∷ [])
-unfolding node_on_words
-compact_dashed name file = (refl, refl)
-
-pub status_dashed : (name file : Text) → Names (name ∷ codes "status" ∷ codes "--" ∷ file ∷ []) (codes "status" ∷ file ∷ [])
-unfolding node_on_words
-status_dashed name file = (refl, refl)
-
-pub sync_dashed : (name file addr timeout : Text) (token : Option Text) → Names (name ∷ codes "sync" ∷ (codes "--timeout=" ++ timeout) ∷ (token_words token ++ codes "--" ∷ file ∷ addr ∷ [])) (codes "sync" ∷ file ∷ addr ∷ timeout ∷ token_words token)
-unfolding node_on_words
-sync_dashed name file addr timeout None = (refl, refl)
-sync_dashed name file addr timeout (Some token) = (refl, refl)
-
-pub sync_alone_dashed : (name file addr : Text) → Names (name ∷ codes "sync" ∷ codes "--" ∷ file ∷ addr ∷ []) (codes "sync" ∷ file ∷ addr ∷ codes "60" ∷ [])
-unfolding node_on_words
-sync_alone_dashed name file addr = (refl, refl)
-
-pub pair_dashed : (name first second : Text) → Names (name ∷ codes "pair" ∷ codes "--" ∷ first ∷ second ∷ []) (codes "pair" ∷ first ∷ second ∷ [])
-unfolding node_on_words
-pair_dashed name first second = (refl, refl)
-
-pub set_dashed : (name file path value : Text) → Names (name ∷ codes "set" ∷ codes "--" ∷ file ∷ path ∷ value ∷ []) (codes "set" ∷ file ∷ path ∷ value ∷ [])
-unfolding node_on_words
-set_dashed name file path value = (refl, refl)
-
-pub add_dashed : (name file path value : Text) → Names (name ∷ codes "add" ∷ codes "--" ∷ file ∷ path ∷ value ∷ []) (codes "add" ∷ file ∷ path ∷ value ∷ [])
-unfolding node_on_words
-add_dashed name file path value = (refl, refl)
-
-pub del_dashed : (name file path value : Text) → Names (name ∷ codes "del" ∷ codes "--" ∷ file ∷ path ∷ value ∷ []) (codes "del" ∷ file ∷ path ∷ value ∷ [])
-unfolding node_on_words
-del_dashed name file path value = (refl, refl)
-
-pub clear_dashed : (name file path : Text) → Names (name ∷ codes "clear" ∷ codes "--" ∷ file ∷ path ∷ []) (codes "clear" ∷ file ∷ path ∷ [])
-unfolding node_on_words
-clear_dashed name file path = (refl, refl)
-
-pub inc_dashed : (name file key by : Text) → Names (name ∷ codes "inc" ∷ codes "--" ∷ file ∷ key ∷ by ∷ []) (codes "inc" ∷ file ∷ key ∷ by ∷ [])
-unfolding node_on_words
-inc_dashed name file key by = (refl, refl)
-
-pub dec_dashed : (name file key by : Text) → Names (name ∷ codes "dec" ∷ codes "--" ∷ file ∷ key ∷ by ∷ []) (codes "dec" ∷ file ∷ key ∷ by ∷ [])
-unfolding node_on_words
-dec_dashed name file key by = (refl, refl)
-
-pub serve_dashed : (name file addr sessions timeout : Text) → Names (name ∷ codes "serve" ∷ (codes "--sessions=" ++ sessions) ∷ (codes "--timeout=" ++ timeout) ∷ codes "--" ∷ file ∷ addr ∷ [])
-    (codes "serve" ∷ file ∷ addr ∷ sessions ∷ timeout ∷ [])
-unfolding node_on_words
-serve_dashed name file addr sessions timeout = (refl, refl)
-
-pub sessions_alone_dashed : (name file addr sessions : Text) → Names (name ∷ codes "serve" ∷ (codes "--sessions=" ++ sessions) ∷ codes "--" ∷ file ∷ addr ∷ []) (codes "serve" ∷ file ∷ addr ∷ sessions ∷ codes "60" ∷ [])
-unfolding node_on_words
-sessions_alone_dashed name file addr sessions = (refl, refl)
-
-pub timeout_alone_dashed : (name file addr timeout : Text) → Names (name ∷ codes "serve" ∷ (codes "--timeout=" ++ timeout) ∷ codes "--" ∷ file ∷ addr ∷ []) (codes "serve" ∷ file ∷ addr ∷ codes "1" ∷ timeout ∷ [])
-unfolding node_on_words
-timeout_alone_dashed name file addr timeout = (refl, refl)
-
-pub once_dashed : (name file addr : Text) → Names (name ∷ codes "serve" ∷ codes "--" ∷ file ∷ addr ∷ []) (codes "serve" ∷ file ∷ addr ∷ codes "1" ∷ codes "60" ∷ [])
-unfolding node_on_words
-once_dashed name file addr = (refl, refl)
-
-pub run_alone_dashed : (name file : Text) → Names (name ∷ codes "run" ∷ codes "--" ∷ file ∷ []) (codes "run" ∷ file ∷ codes "127.0.0.1:7780" ∷ codes "10" ∷ [])
-unfolding node_on_words
-run_alone_dashed name file = (refl, refl)
-
-pub show_root_dashed : (name file : Text) → Names (name ∷ codes "show" ∷ codes "--" ∷ file ∷ []) (codes "show" ∷ file ∷ [] ∷ [])
-unfolding node_on_words
-show_root_dashed name file = (refl, refl)
-
-all_cleared_dashed : (name file : Text) → Names (name ∷ codes "clear" ∷ codes "--all" ∷ codes "--" ∷ file ∷ []) (codes "clear" ∷ file ∷ [] ∷ codes "--all" ∷ [])
-unfolding node_on_words
-all_cleared_dashed name file = (refl, refl)
-
-pub dump_dashed : (name file path : Text) → Names (name ∷ codes "dump" ∷ codes "--" ∷ file ∷ path ∷ []) (codes "dump" ∷ file ∷ path ∷ [])
-unfolding node_on_words
-dump_dashed name file path = (refl, refl)
-
-pub dump_root_dashed : (name file : Text) → Names (name ∷ codes "dump" ∷ codes "--" ∷ file ∷ []) (codes "dump" ∷ file ∷ [] ∷ [])
-unfolding node_on_words
-dump_root_dashed name file = (refl, refl)
-
-pub ask_dashed : (name file : Text) → Names (name ∷ codes "ask" ∷ codes "--" ∷ file ∷ []) (codes "ask" ∷ file ∷ [])
-unfolding node_on_words
-ask_dashed name file = (refl, refl)
-
-pub answer_dashed : (name file : Text) → Names (name ∷ codes "answer" ∷ codes "--" ∷ file ∷ []) (codes "answer" ∷ file ∷ [])
-unfolding node_on_words
-answer_dashed name file = (refl, refl)
-
-pub take_dashed : (name file question answer : Text) → Names (name ∷ codes "take" ∷ codes "--" ∷ file ∷ question ∷ answer ∷ []) (codes "take" ∷ file ∷ question ∷ answer ∷ [])
-unfolding node_on_words
-take_dashed name file question answer = (refl, refl)
-
-pub merge_dashed : (name file from : Text) → Names (name ∷ codes "merge" ∷ codes "--" ∷ file ∷ from ∷ []) (codes "merge" ∷ file ∷ from ∷ [])
-unfolding node_on_words
-merge_dashed name file from = (refl, refl)
-
-pub check_dashed : (name question answer : Text) → Names (name ∷ codes "check" ∷ codes "--" ∷ question ∷ answer ∷ []) (codes "check" ∷ question ∷ answer ∷ [])
-unfolding node_on_words
-check_dashed name question answer = (refl, refl)
-
-pub conflicts_dashed : (name file path : Text) → Names (name ∷ codes "conflicts" ∷ codes "--" ∷ file ∷ path ∷ []) (codes "conflicts" ∷ file ∷ path ∷ [])
-unfolding node_on_words
-conflicts_dashed name file path = (refl, refl)
-
-pub conflicts_root_dashed : (name file : Text) → Names (name ∷ codes "conflicts" ∷ codes "--" ∷ file ∷ []) (codes "conflicts" ∷ file ∷ [] ∷ [])
-unfolding node_on_words
-conflicts_root_dashed name file = (refl, refl)
-
-pub diff_dashed : (name file other : Text) → Names (name ∷ codes "diff" ∷ codes "--" ∷ file ∷ other ∷ []) (codes "diff" ∷ file ∷ other ∷ [])
-unfolding node_on_words
-diff_dashed name file other = (refl, refl)
-
-watch_dashed : (name node path : Text) (token : Option Text) → Names (name ∷ codes "watch" ∷ (token_words token ++ codes "--" ∷ node ∷ path ∷ [])) (codes "watch" ∷ node ∷ path ∷ token_words token)
-unfolding node_on_words
-watch_dashed name node path None = (refl, refl)
-watch_dashed name node path (Some token) = (refl, refl)
-
-pub watch_path_dashed : (name node path : Text) → Names (name ∷ codes "watch" ∷ codes "--" ∷ node ∷ path ∷ []) (codes "watch" ∷ node ∷ path ∷ [])
-watch_path_dashed name node path = watch_dashed name node path None
-
-pub watch_root_dashed : (name node : Text) → Names (name ∷ codes "watch" ∷ codes "--" ∷ node ∷ []) (codes "watch" ∷ node ∷ [] ∷ [])
-unfolding node_on_words
-watch_root_dashed name node = (refl, refl)
-
-init_from_dashed : (name file own from : Text) → Names (name ∷ codes "init" ∷ (codes "--from=" ++ from) ∷ codes "--" ∷ file ∷ own ∷ []) (codes "init" ∷ file ∷ own ∷ (codes "--from=" ++ from) ∷ [])
-unfolding node_on_words
-init_from_dashed name file own from = (refl, refl)
-
-set_text_dashed : (name file path value : Text) → Names (name ∷ codes "set" ∷ codes "--text" ∷ codes "--" ∷ file ∷ path ∷ value ∷ []) (codes "set" ∷ file ∷ path ∷ value ∷ codes "--text" ∷ [])
-unfolding node_on_words
-set_text_dashed name file path value = (refl, refl)
-
-set_changed_dashed : (name file path value : Text) → Names (name ∷ codes "set" ∷ codes "--if-changed" ∷ codes "--" ∷ file ∷ path ∷ value ∷ []) (codes "set" ∷ file ∷ path ∷ value ∷ codes "--if-changed" ∷ [])
-unfolding node_on_words
-set_changed_dashed name file path value = (refl, refl)
-
-set_text_changed_dashed : (name file path value : Text) → Names (name ∷ codes "set" ∷ codes "--if-changed" ∷ codes "--text" ∷ codes "--" ∷ file ∷ path ∷ value ∷ []) (codes "set" ∷ file ∷ path ∷ value ∷ codes "--text" ∷ codes "--if-changed" ∷ [])
-unfolding node_on_words
-set_text_changed_dashed name file path value = (refl, refl)
-
-add_text_dashed : (name file path value : Text) → Names (name ∷ codes "add" ∷ codes "--text" ∷ codes "--" ∷ file ∷ path ∷ value ∷ []) (codes "add" ∷ file ∷ path ∷ value ∷ codes "--text" ∷ [])
-unfolding node_on_words
-add_text_dashed name file path value = (refl, refl)
-
-add_changed_dashed : (name file path value : Text) → Names (name ∷ codes "add" ∷ codes "--if-changed" ∷ codes "--" ∷ file ∷ path ∷ value ∷ []) (codes "add" ∷ file ∷ path ∷ value ∷ codes "--if-changed" ∷ [])
-unfolding node_on_words
-add_changed_dashed name file path value = (refl, refl)
-
-add_text_changed_dashed : (name file path value : Text) → Names (name ∷ codes "add" ∷ codes "--if-changed" ∷ codes "--text" ∷ codes "--" ∷ file ∷ path ∷ value ∷ []) (codes "add" ∷ file ∷ path ∷ value ∷ codes "--text" ∷ codes "--if-changed" ∷ [])
-unfolding node_on_words
-add_text_changed_dashed name file path value = (refl, refl)
-
-del_text_dashed : (name file path value : Text) → Names (name ∷ codes "del" ∷ codes "--text" ∷ codes "--" ∷ file ∷ path ∷ value ∷ []) (codes "del" ∷ file ∷ path ∷ value ∷ codes "--text" ∷ [])
-unfolding node_on_words
-del_text_dashed name file path value = (refl, refl)
-
-get_raw_dashed : (name file path : Text) → Names (name ∷ codes "get" ∷ codes "--raw" ∷ codes "--" ∷ file ∷ path ∷ []) (codes "get" ∷ file ∷ path ∷ codes "--raw" ∷ [])
-unfolding node_on_words
-get_raw_dashed name file path = (refl, refl)
-
-get_reg_dashed : (name file path : Text) → Names (name ∷ codes "get" ∷ codes "--reg" ∷ codes "--" ∷ file ∷ path ∷ []) (codes "get" ∷ file ∷ path ∷ codes "--reg" ∷ [])
-unfolding node_on_words
-get_reg_dashed name file path = (refl, refl)
-
-get_set_dashed : (name file path : Text) → Names (name ∷ codes "get" ∷ codes "--set" ∷ codes "--" ∷ file ∷ path ∷ []) (codes "get" ∷ file ∷ path ∷ codes "--set" ∷ [])
-unfolding node_on_words
-get_set_dashed name file path = (refl, refl)
-
-get_counter_dashed : (name file path : Text) → Names (name ∷ codes "get" ∷ codes "--counter" ∷ codes "--" ∷ file ∷ path ∷ []) (codes "get" ∷ file ∷ path ∷ codes "--counter" ∷ [])
-unfolding node_on_words
-get_counter_dashed name file path = (refl, refl)
-
-pretty_dashed : (name file path : Text) → Names (name ∷ codes "show" ∷ codes "--pretty" ∷ codes "--" ∷ file ∷ path ∷ []) (codes "show" ∷ file ∷ path ∷ codes "--pretty" ∷ [])
-unfolding node_on_words
-pretty_dashed name file path = (refl, refl)
-
-pub pretty_root_dashed : (name file : Text) → Names (name ∷ codes "show" ∷ codes "--pretty" ∷ codes "--" ∷ file ∷ []) (codes "show" ∷ file ∷ [] ∷ codes "--pretty" ∷ [])
-unfolding node_on_words
-pretty_root_dashed name file = (refl, refl)
-
--- ---- where the walk over the words meets each command
-
-pub join_met : Meets (built node_app) (codes "join")
-unfolding node_on_words
-join_met = (refl, refl)
-
-pub sim_met : Meets (built node_app) (codes "sim")
-unfolding node_on_words
-sim_met = (refl, refl)
-
-pub files_met : Meets (built node_app) (codes "files")
-unfolding node_on_words
-files_met = (refl, refl)
-
-pub faults_met : Meets (built node_app) (codes "faults")
-unfolding node_on_words
-faults_met = (refl, refl)
-
-pub edit_lines_met : Meets (built node_app) (codes "edit")
-unfolding node_on_words
-edit_lines_met = (refl, refl)
-
-pub get_met : Meets (built node_app) (codes "get")
-unfolding node_on_words
-get_met = (refl, refl)
-
-pub compact_met : Meets (built node_app) (codes "compact")
-unfolding node_on_words
-compact_met = (refl, refl)
-
-pub status_met : Meets (built node_app) (codes "status")
-unfolding node_on_words
-status_met = (refl, refl)
-
-pub pair_met : Meets (built node_app) (codes "pair")
-unfolding node_on_words
-pair_met = (refl, refl)
-
-pub set_met : Meets (built node_app) (codes "set")
-unfolding node_on_words
-set_met = (refl, refl)
-
-pub add_met : Meets (built node_app) (codes "add")
-unfolding node_on_words
-add_met = (refl, refl)
-
-pub del_met : Meets (built node_app) (codes "del")
-unfolding node_on_words
-del_met = (refl, refl)
-
-pub clear_met : Meets (built node_app) (codes "clear")
-unfolding node_on_words
-clear_met = (refl, refl)
-
-pub inc_met : Meets (built node_app) (codes "inc")
-unfolding node_on_words
-inc_met = (refl, refl)
-
-pub dec_met : Meets (built node_app) (codes "dec")
-unfolding node_on_words
-dec_met = (refl, refl)
-
-pub dump_met : Meets (built node_app) (codes "dump")
-unfolding node_on_words
-dump_met = (refl, refl)
-
-pub ask_met : Meets (built node_app) (codes "ask")
-unfolding node_on_words
-ask_met = (refl, refl)
-
-pub answer_met : Meets (built node_app) (codes "answer")
-unfolding node_on_words
-answer_met = (refl, refl)
-
-pub take_met : Meets (built node_app) (codes "take")
-unfolding node_on_words
-take_met = (refl, refl)
-
-pub merge_met : Meets (built node_app) (codes "merge")
-unfolding node_on_words
-merge_met = (refl, refl)
-
-pub check_met : Meets (built node_app) (codes "check")
-unfolding node_on_words
-check_met = (refl, refl)
-
-pub conflicts_met : Meets (built node_app) (codes "conflicts")
-unfolding node_on_words
-conflicts_met = (refl, refl)
-
-pub diff_met : Meets (built node_app) (codes "diff")
-unfolding node_on_words
-diff_met = (refl, refl)
-
-pub init_met : Meets (built node_app) (codes "init")
-unfolding node_on_words
-init_met = (refl, refl)
-
-pub show_met : Meets (built node_app) (codes "show")
-unfolding node_on_words
-show_met = (refl, refl)
-
-pub sync_met : Meets (built node_app) (codes "sync")
-unfolding node_on_words
-sync_met = (refl, refl)
-
-pub serve_met : Meets (built node_app) (codes "serve")
-unfolding node_on_words
-serve_met = (refl, refl)
-
-pub run_met : Meets (built node_app) (codes "run")
-unfolding node_on_words
-run_met = (refl, refl)
-
-watch_met : Meets (built node_app) (codes "watch")
-unfolding node_on_words
-watch_met = (refl, refl)
-
--- ---- each task
-
-init_behind : (name file group own : Text) (names : List (Bor Text)) → (names ≡ [] → ⊥)
-    → Names (name ∷ codes "init" ∷ codes "--" ∷ file ∷ group ∷ own ∷ map (λ n. n.now) names) (codes "init" ∷ file ∷ group ∷ own ∷ map (λ n. n.now) names)
-init_behind name file group own [] has = absurd (has refl)
-init_behind name file group own (n ∷ names) has = init_dashed name file group own n.now (map (λ n. n.now) names)
+undashed : (name command : Text) (words result : List Text) → Meets (built node_app) command → AreData words
+    → Names (name ∷ command ∷ codes "--" ∷ words) result → Names (name ∷ command ∷ words) result
+unfolding node_on_words
+undashed name command words result meets are behind = (
+  undashed_fault (built node_app) command words meets are ∙ behind.0,
+  ap words_in (undashed_rows (built node_app) command words meets are) ∙ behind.1,
+)
+
+-- ---- a command without options
+
+module _ (command : Text) (count : Count) (plain : IsPlain command count) (name : Text) (given words : List Text) where
+  plain_dashed : IsGivenWords count given words → Names (name ∷ command ∷ codes "--" ∷ given) (command ∷ words)
+  plain_dashed is = plain.known.counted.named name given words is
+
+  plain_written : AreData given → IsGivenWords count given words → Names (name ∷ command ∷ given) (command ∷ words)
+  plain_written are is = undashed name command given (command ∷ words) plain.known.is.met are (plain_dashed is)
+
+-- ---- commands with names, or with a token
+
+init_dashed : (name file group own : Text) (names : List (Bor Text)) → (names ≡ [] → ⊥)
+    → Names (name ∷ codes "init" ∷ codes "--" ∷ file ∷ group ∷ own ∷ map (λ n. n.now) names)
+    (codes "init" ∷ file ∷ group ∷ own ∷ map (λ n. n.now) names)
+init_dashed name file group own [] has = absurd (has refl)
+init_dashed name file group own (n ∷ names) has =
+    let given = file ∷ group ∷ own ∷ n.now ∷ map (λ n. n.now) names in
+    named_dashed init_plan init_takes name [] given given refl refl (le-leb 2 (length given) (omega arith)) refl
 
 grow_behind : (name file : Text) (names : List (Bor Text)) → (names ≡ [] → ⊥)
     → Names (name ∷ codes "grow" ∷ codes "--" ∷ file ∷ map (λ n. n.now) names) (codes "grow" ∷ file ∷ map (λ n. n.now) names)
 grow_behind name file [] has = absurd (has refl)
 grow_behind name file (n ∷ names) has = grow_dashed name file n.now (map (λ n. n.now) names)
 
-pub task_dashed : (name : Text) (task : Task) → HasNames task → Names (name ∷ words_dashed task) (words_of task)
-task_dashed name Join has = join_dashed name
-task_dashed name Sim has = sim_dashed name
-task_dashed name Files has = files_dashed name
-task_dashed name Faults has = faults_dashed name
-task_dashed name (Init words) has = init_behind name words.file.now words.group.now words.own.now words.names.items has
-task_dashed name (InitFrom words) has = init_from_dashed name words.file.now words.own.now words.from.now
-task_dashed name (Edit file (Set path (word.Text value))) has = set_text_dashed name file.now path.now value.now
-task_dashed name (Edit file (Add path (word.Text value))) has = add_text_dashed name file.now path.now value.now
-task_dashed name (Edit file (Del path (word.Text value))) has = del_text_dashed name file.now path.now value.now
-task_dashed name (EditIfChanged file (Set path (word.Json value))) has = set_changed_dashed name file.now path.now value.now
-task_dashed name (EditIfChanged file (Set path (word.Text value))) has = set_text_changed_dashed name file.now path.now value.now
-task_dashed name (EditIfChanged file (Add path (word.Json value))) has = add_changed_dashed name file.now path.now value.now
-task_dashed name (EditIfChanged file (Add path (word.Text value))) has = add_text_changed_dashed name file.now path.now value.now
+sync_dashed : (name file addr timeout : Text) (token : Option Text)
+    → Names (name ∷ codes "sync" ∷ (codes "--timeout=" ++ timeout) ∷ (token_words token ++ codes "--" ∷ file ∷ addr ∷ []))
+    (codes "sync" ∷ file ∷ addr ∷ timeout ∷ token_words token)
+sync_dashed name file addr timeout None =
+    named_dashed sync_plan sync_takes name (joined (codes "--timeout") timeout ∷ []) (file ∷ addr ∷ []) _ refl refl refl refl
+sync_dashed name file addr timeout (Some token) =
+    named_dashed sync_plan sync_takes name (joined (codes "--timeout") timeout ∷ joined (codes "--token-file") token ∷ [])
+    (file ∷ addr ∷ []) _ refl refl refl refl
+
+sync_written : (name file addr timeout : Text) (token : Option Text) → AreData (file ∷ addr ∷ timeout ∷ [])
+    → Names (name ∷ codes "sync" ∷ file ∷ addr ∷ codes "--timeout" ∷ timeout ∷ token_words token)
+    (codes "sync" ∷ file ∷ addr ∷ timeout ∷ token_words token)
+sync_written name file addr timeout None are =
+    named sync_plan sync_takes name (placed file ∷ placed addr ∷ apart (codes "--timeout") timeout ∷ []) _ are refl refl refl
+sync_written name file addr timeout (Some token) are =
+    named sync_plan sync_takes name
+    (placed file ∷ placed addr ∷ apart (codes "--timeout") timeout ∷ joined (codes "--token-file") token ∷ [])
+    _ are refl refl refl
+
+watch_dashed : (name node path : Text) (token : Option Text)
+    → Names (name ∷ codes "watch" ∷ (token_words token ++ codes "--" ∷ node ∷ path ∷ []))
+    (codes "watch" ∷ node ∷ path ∷ token_words token)
+watch_dashed name node path None =
+    named_dashed watch_plan watch_takes name [] (node ∷ path ∷ []) _ refl refl refl refl
+watch_dashed name node path (Some token) =
+    named_dashed watch_plan watch_takes name (joined (codes "--token-file") token ∷ []) (node ∷ path ∷ []) _ refl refl refl refl
+
+watch_written : (name node path : Text) (token : Option Text) → AreData (node ∷ path ∷ [])
+    → Names (name ∷ codes "watch" ∷ node ∷ path ∷ token_words token) (codes "watch" ∷ node ∷ path ∷ token_words token)
+watch_written name node path None are =
+    named watch_plan watch_takes name (placed node ∷ placed path ∷ []) _ are refl refl refl
+watch_written name node path (Some token) are =
+    named watch_plan watch_takes name (placed node ∷ placed path ∷ joined (codes "--token-file") token ∷ []) _ are refl refl refl
+
+raw_dashed : (name file path : Text) (which : RawKind)
+    → Names (name ∷ codes "get" ∷ raw_word which ∷ codes "--" ∷ file ∷ path ∷ []) (codes "get" ∷ file ∷ path ∷ raw_word which ∷ [])
+raw_dashed name file path kind.Any =
+    named_dashed get_plan get_takes name (alone (codes "--raw") ∷ []) (file ∷ path ∷ []) _ refl refl refl refl
+raw_dashed name file path kind.Register =
+    named_dashed get_plan get_takes name (alone (codes "--reg") ∷ []) (file ∷ path ∷ []) _ refl refl refl refl
+raw_dashed name file path kind.Set =
+    named_dashed get_plan get_takes name (alone (codes "--set") ∷ []) (file ∷ path ∷ []) _ refl refl refl refl
+raw_dashed name file path kind.Counter =
+    named_dashed get_plan get_takes name (alone (codes "--counter") ∷ []) (file ∷ path ∷ []) _ refl refl refl refl
+
+raw_written : (name file path : Text) (which : RawKind) → AreData (file ∷ path ∷ [])
+    → Names (name ∷ codes "get" ∷ raw_word which ∷ file ∷ path ∷ []) (codes "get" ∷ file ∷ path ∷ raw_word which ∷ [])
+raw_written name file path kind.Any are =
+    named get_plan get_takes name (alone (codes "--raw") ∷ placed file ∷ placed path ∷ []) _ are refl refl refl
+raw_written name file path kind.Register are =
+    named get_plan get_takes name (alone (codes "--reg") ∷ placed file ∷ placed path ∷ []) _ are refl refl refl
+raw_written name file path kind.Set are =
+    named get_plan get_takes name (alone (codes "--set") ∷ placed file ∷ placed path ∷ []) _ are refl refl refl
+raw_written name file path kind.Counter are =
+    named get_plan get_takes name (alone (codes "--counter") ∷ placed file ∷ placed path ∷ []) _ are refl refl refl
+
+-- ---- each task
+
+pub task_dashed : (name : Text) (task : Task) → HasNames task → Names (name ∷ words_dashed task) (task_words task)
+task_dashed name Join has = plain_dashed _ _ join_plain name [] _ (refl, refl)
+task_dashed name Sim has = plain_dashed _ _ sim_plain name [] _ (refl, refl)
+task_dashed name Files has = plain_dashed _ _ files_plain name [] _ (refl, refl)
+task_dashed name Faults has = plain_dashed _ _ faults_plain name [] _ (refl, refl)
+task_dashed name (Init words) has = init_dashed name words.file.now words.group.now words.own.now words.names.items has
+task_dashed name (InitFrom words) has =
+    named_dashed init_plan init_takes name (joined (codes "--from") words.from.now ∷ []) (words.file.now ∷ words.own.now ∷ []) _
+    refl refl refl refl
+task_dashed name (Grow words) has = grow_behind name words.file.now words.names.items has
+task_dashed name (Edit file (Set path (word.Json value))) has =
+    named_dashed set_plan set_takes name [] (file.now ∷ path.now ∷ value.now ∷ []) _ refl refl refl refl
+task_dashed name (Edit file (Set path (word.Text value))) has =
+    named_dashed set_plan set_takes name (alone (codes "--text") ∷ []) (file.now ∷ path.now ∷ value.now ∷ []) _ refl refl refl refl
+task_dashed name (EditIfChanged file (Set path (word.Json value))) has =
+    named_dashed set_plan set_takes name (alone (codes "--if-changed") ∷ []) (file.now ∷ path.now ∷ value.now ∷ []) _ refl refl refl refl
+task_dashed name (EditIfChanged file (Set path (word.Text value))) has =
+    named_dashed set_plan set_takes name (alone (codes "--if-changed") ∷ alone (codes "--text") ∷ []) (file.now ∷ path.now ∷ value.now ∷ []) _ refl refl refl refl
+task_dashed name (Edit file (Add path (word.Json value))) has =
+    named_dashed add_plan add_takes name [] (file.now ∷ path.now ∷ value.now ∷ []) _ refl refl refl refl
+task_dashed name (Edit file (Add path (word.Text value))) has =
+    named_dashed add_plan add_takes name (alone (codes "--text") ∷ []) (file.now ∷ path.now ∷ value.now ∷ []) _ refl refl refl refl
+task_dashed name (EditIfChanged file (Add path (word.Json value))) has =
+    named_dashed add_plan add_takes name (alone (codes "--if-changed") ∷ []) (file.now ∷ path.now ∷ value.now ∷ []) _ refl refl refl refl
+task_dashed name (EditIfChanged file (Add path (word.Text value))) has =
+    named_dashed add_plan add_takes name (alone (codes "--if-changed") ∷ alone (codes "--text") ∷ []) (file.now ∷ path.now ∷ value.now ∷ []) _ refl refl refl refl
+task_dashed name (Edit file (Del path (word.Json value))) has =
+    named_dashed del_plan del_takes name [] (file.now ∷ path.now ∷ value.now ∷ []) _ refl refl refl refl
+task_dashed name (Edit file (Del path (word.Text value))) has =
+    named_dashed del_plan del_takes name (alone (codes "--text") ∷ []) (file.now ∷ path.now ∷ value.now ∷ []) _ refl refl refl refl
+task_dashed name (Edit file (Clear path)) has =
+    named_dashed clear_plan clear_takes name [] (file.now ∷ path.now ∷ []) _ refl refl refl refl
+task_dashed name (Edit file ClearAll) has =
+    named_dashed clear_plan clear_takes name (alone (codes "--all") ∷ []) (file.now ∷ []) _ refl refl refl refl
+task_dashed name (Edit file (Inc key by)) has =
+    plain_dashed _ _ inc_plain name (file.now ∷ key.now ∷ by.now ∷ []) _ (refl, refl)
+task_dashed name (Edit file (Dec key by)) has =
+    plain_dashed _ _ dec_plain name (file.now ∷ key.now ∷ by.now ∷ []) _ (refl, refl)
 task_dashed name (EditIfChanged file (Del path value)) has = absurd has
 task_dashed name (EditIfChanged file (Clear path)) has = absurd has
 task_dashed name (EditIfChanged file ClearAll) has = absurd has
 task_dashed name (EditIfChanged file (Inc key by)) has = absurd has
 task_dashed name (EditIfChanged file (Dec key by)) has = absurd has
-task_dashed name (GetRaw file path kind.Any) has = get_raw_dashed name file.now path.now
-task_dashed name (GetRaw file path kind.Register) has = get_reg_dashed name file.now path.now
-task_dashed name (GetRaw file path kind.Set) has = get_set_dashed name file.now path.now
-task_dashed name (GetRaw file path kind.Counter) has = get_counter_dashed name file.now path.now
-task_dashed name (Grow words) has = grow_behind name words.file.now words.names.items has
-task_dashed name (Edit file (Set path (word.Json value))) has = set_dashed name file.now path.now value.now
-task_dashed name (Edit file (Add path (word.Json value))) has = add_dashed name file.now path.now value.now
-task_dashed name (Edit file (Del path (word.Json value))) has = del_dashed name file.now path.now value.now
-task_dashed name (Edit file (Clear path)) has = clear_dashed name file.now path.now
-task_dashed name (Edit file ClearAll) has = all_cleared_dashed name file.now
-task_dashed name (Edit file (Inc key by)) has = inc_dashed name file.now key.now by.now
-task_dashed name (Edit file (Dec key by)) has = dec_dashed name file.now key.now by.now
-task_dashed name (EditLines file) has = edit_lines_dashed name file.now
-task_dashed name (Get file path) has = get_dashed name file.now path.now
-task_dashed name (Show file path) has = show_dashed name file.now path.now
-task_dashed name (ShowPretty file path) has = pretty_dashed name file.now path.now
-task_dashed name (Compact file) has = compact_dashed name file.now
-task_dashed name (Status file) has = status_dashed name file.now
-task_dashed name (Sync words) has = sync_dashed name words.file.now words.addr.now words.timeout.now (option_map (λ t. t.now) words.token_file)
-task_dashed name (Pair first second) has = pair_dashed name first.now second.now
-task_dashed name (Serve words) has = serve_dashed name words.file.now words.addr.now words.sessions.now words.timeout.now
-task_dashed name (Run words) has = run_dashed words.http.now words.every.now (map (λ p. p.now) words.peers.items) (option_map (λ t. t.now) words.token_file) words.is_open words.log name words.file.now
-task_dashed name (Dump file path) has = dump_dashed name file.now path.now
-task_dashed name (Ask file) has = ask_dashed name file.now
-task_dashed name (Answer file) has = answer_dashed name file.now
-task_dashed name (Take file question answer) has = take_dashed name file.now question.now answer.now
-task_dashed name (Merge file from) has = merge_dashed name file.now from.now
-task_dashed name (Check question answer) has = check_dashed name question.now answer.now
-task_dashed name (Conflicts file path) has = conflicts_dashed name file.now path.now
-task_dashed name (Diff file other) has = diff_dashed name file.now other.now
-task_dashed name (Watch words) has = watch_dashed name words.node.now words.path.now (option_map (λ t. t.now) words.token_file)
+task_dashed name (EditLines file) has = plain_dashed _ _ edit_lines_plain name (file.now ∷ []) _ (refl, refl)
+task_dashed name (Get file path) has =
+    named_dashed get_plan get_takes name [] (file.now ∷ path.now ∷ []) _ refl refl refl refl
+task_dashed name (GetRaw file path which) has = raw_dashed name file.now path.now which
+task_dashed name (Show file path) has =
+    named_dashed show_plan show_takes name [] (file.now ∷ path.now ∷ []) _ refl refl refl refl
+task_dashed name (ShowPretty file path) has =
+    named_dashed show_plan show_takes name (alone (codes "--pretty") ∷ []) (file.now ∷ path.now ∷ []) _ refl refl refl refl
+task_dashed name (Dump file path) has = plain_dashed _ _ dump_plain name (file.now ∷ path.now ∷ []) _ (inl (refl, refl))
+task_dashed name (Compact file) has = plain_dashed _ _ compact_plain name (file.now ∷ []) _ (refl, refl)
+task_dashed name (Status file) has = plain_dashed _ _ status_plain name (file.now ∷ []) _ (refl, refl)
+task_dashed name (Sync words) has =
+    sync_dashed name words.file.now words.addr.now words.timeout.now (option_map (λ t. t.now) words.token_file)
+task_dashed name (Pair first second) has = plain_dashed _ _ pair_plain name (first.now ∷ second.now ∷ []) _ (refl, refl)
+task_dashed name (Serve words) has =
+    named_dashed serve_plan serve_takes name
+    (joined (codes "--sessions") words.sessions.now ∷ joined (codes "--timeout") words.timeout.now ∷ [])
+    (words.file.now ∷ words.addr.now ∷ []) _ refl refl refl refl
+task_dashed name (Run words) has =
+    run_dashed words.http.now words.every.now (map (λ p. p.now) words.peers.items) (option_map (λ t. t.now) words.token_file) words.is_open words.log
+    name words.file.now
+task_dashed name (Ask file) has = plain_dashed _ _ ask_plain name (file.now ∷ []) _ (refl, refl)
+task_dashed name (Answer file) has = plain_dashed _ _ answer_plain name (file.now ∷ []) _ (refl, refl)
+task_dashed name (Take file question answer) has =
+    plain_dashed _ _ take_plain name (file.now ∷ question.now ∷ answer.now ∷ []) _ (refl, refl)
+task_dashed name (Merge file from) has = plain_dashed _ _ merge_plain name (file.now ∷ from.now ∷ []) _ (refl, refl)
+task_dashed name (Check question answer) has =
+    plain_dashed _ _ check_plain name (question.now ∷ answer.now ∷ []) _ (refl, refl)
+task_dashed name (Conflicts file path) has =
+    plain_dashed _ _ conflicts_plain name (file.now ∷ path.now ∷ []) _ (inl (refl, refl))
+task_dashed name (Diff file other) has = plain_dashed _ _ diff_plain name (file.now ∷ other.now ∷ []) _ (refl, refl)
+task_dashed name (Watch words) has =
+    watch_dashed name words.node.now words.path.now (option_map (λ t. t.now) words.token_file)
 
-pub task_written : (name : Text) (task : Task) → IsWritable task → Names (name ∷ words_written task) (words_of task)
-task_written name Join is = undashed name (codes "join") [] _ join_met is.1 (join_dashed name)
-task_written name Sim is = undashed name (codes "sim") [] _ sim_met is.1 (sim_dashed name)
-task_written name Files is = undashed name (codes "files") [] _ files_met is.1 (files_dashed name)
-task_written name Faults is = undashed name (codes "faults") [] _ faults_met is.1 (faults_dashed name)
-task_written name (Init words) is = undashed name (codes "init") (words.file.now ∷ words.group.now ∷ words.own.now ∷ map (λ n. n.now) words.names.items) _ init_met is.1
-    (init_behind name words.file.now words.group.now words.own.now words.names.items is.0)
-task_written name (InitFrom words) is = init_from_named name words.file.now words.own.now words.from.now is.1
-task_written name (Edit file (Set path (word.Text value))) is = text_named (codes "set") set_takes name file.now path.now value.now is.1
-task_written name (Edit file (Add path (word.Text value))) is = text_named (codes "add") add_takes name file.now path.now value.now is.1
-task_written name (Edit file (Del path (word.Text value))) is = del_text_named name file.now path.now value.now is.1
-task_written name (EditIfChanged file (Set path (word.Json value))) is = changed_named (codes "set") set_takes name file.now path.now value.now is.1
-task_written name (EditIfChanged file (Set path (word.Text value))) is = text_changed_named (codes "set") set_takes name file.now path.now value.now is.1
-task_written name (EditIfChanged file (Add path (word.Json value))) is = changed_named (codes "add") add_takes name file.now path.now value.now is.1
-task_written name (EditIfChanged file (Add path (word.Text value))) is = text_changed_named (codes "add") add_takes name file.now path.now value.now is.1
+pub task_written : (name : Text) (task : Task) → IsWritable task → Names (name ∷ words_written task) (task_words task)
+task_written name Join is = plain_written _ _ join_plain name [] _ is.1 (refl, refl)
+task_written name Sim is = plain_written _ _ sim_plain name [] _ is.1 (refl, refl)
+task_written name Files is = plain_written _ _ files_plain name [] _ is.1 (refl, refl)
+task_written name Faults is = plain_written _ _ faults_plain name [] _ is.1 (refl, refl)
+task_written name (Init words) is =
+    undashed name (codes "init") _ _ init_is.met is.1 (init_dashed name words.file.now words.group.now words.own.now words.names.items is.0)
+task_written name (InitFrom words) is =
+    named init_plan init_takes name
+    (apart (codes "--from") words.from.now ∷ placed words.file.now ∷ placed words.own.now ∷ []) _ is.1 refl refl refl
+task_written name (Grow words) is =
+    undashed name (codes "grow") _ _ grow_met is.1 (grow_behind name words.file.now words.names.items is.0)
+task_written name (Edit file (Set path (word.Json value))) is =
+    named set_plan set_takes name (placed file.now ∷ placed path.now ∷ placed value.now ∷ []) _ is.1 refl refl refl
+task_written name (Edit file (Set path (word.Text value))) is =
+    named set_plan set_takes name (alone (codes "--text") ∷ placed file.now ∷ placed path.now ∷ placed value.now ∷ []) _ is.1 refl refl refl
+task_written name (EditIfChanged file (Set path (word.Json value))) is =
+    named set_plan set_takes name (alone (codes "--if-changed") ∷ placed file.now ∷ placed path.now ∷ placed value.now ∷ []) _ is.1 refl refl refl
+task_written name (EditIfChanged file (Set path (word.Text value))) is =
+    named set_plan set_takes name (alone (codes "--if-changed") ∷ alone (codes "--text") ∷ placed file.now ∷ placed path.now ∷ placed value.now ∷ []) _ is.1 refl refl refl
+task_written name (Edit file (Add path (word.Json value))) is =
+    named add_plan add_takes name (placed file.now ∷ placed path.now ∷ placed value.now ∷ []) _ is.1 refl refl refl
+task_written name (Edit file (Add path (word.Text value))) is =
+    named add_plan add_takes name (alone (codes "--text") ∷ placed file.now ∷ placed path.now ∷ placed value.now ∷ []) _ is.1 refl refl refl
+task_written name (EditIfChanged file (Add path (word.Json value))) is =
+    named add_plan add_takes name (alone (codes "--if-changed") ∷ placed file.now ∷ placed path.now ∷ placed value.now ∷ []) _ is.1 refl refl refl
+task_written name (EditIfChanged file (Add path (word.Text value))) is =
+    named add_plan add_takes name (alone (codes "--if-changed") ∷ alone (codes "--text") ∷ placed file.now ∷ placed path.now ∷ placed value.now ∷ []) _ is.1 refl refl refl
+task_written name (Edit file (Del path (word.Json value))) is =
+    named del_plan del_takes name (placed file.now ∷ placed path.now ∷ placed value.now ∷ []) _ is.1 refl refl refl
+task_written name (Edit file (Del path (word.Text value))) is =
+    named del_plan del_takes name (alone (codes "--text") ∷ placed file.now ∷ placed path.now ∷ placed value.now ∷ []) _ is.1 refl refl refl
+task_written name (Edit file (Clear path)) is =
+    named clear_plan clear_takes name (placed file.now ∷ placed path.now ∷ []) _ is.1 refl refl refl
+task_written name (Edit file ClearAll) is =
+    named clear_plan clear_takes name (alone (codes "--all") ∷ placed file.now ∷ []) _ is.1 refl refl refl
+task_written name (Edit file (Inc key by)) is =
+    plain_written _ _ inc_plain name (file.now ∷ key.now ∷ by.now ∷ []) _ is.1 (refl, refl)
+task_written name (Edit file (Dec key by)) is =
+    plain_written _ _ dec_plain name (file.now ∷ key.now ∷ by.now ∷ []) _ is.1 (refl, refl)
 task_written name (EditIfChanged file (Del path value)) is = absurd is.0
 task_written name (EditIfChanged file (Clear path)) is = absurd is.0
 task_written name (EditIfChanged file ClearAll) is = absurd is.0
 task_written name (EditIfChanged file (Inc key by)) is = absurd is.0
 task_written name (EditIfChanged file (Dec key by)) is = absurd is.0
-task_written name (GetRaw file path kind.Any) is = get_raw_named name file.now path.now is.1
-task_written name (GetRaw file path kind.Register) is = get_reg_named name file.now path.now is.1
-task_written name (GetRaw file path kind.Set) is = get_set_named name file.now path.now is.1
-task_written name (GetRaw file path kind.Counter) is = get_counter_named name file.now path.now is.1
-task_written name (Grow words) is = undashed name (codes "grow") (words.file.now ∷ map (λ n. n.now) words.names.items) _ grow_met is.1
-    (grow_behind name words.file.now words.names.items is.0)
-task_written name (Edit file (Set path (word.Json value))) is = undashed name (codes "set") (file.now ∷ path.now ∷ value.now ∷ []) _ set_met is.1 (set_dashed name file.now path.now value.now)
-task_written name (Edit file (Add path (word.Json value))) is = undashed name (codes "add") (file.now ∷ path.now ∷ value.now ∷ []) _ add_met is.1 (add_dashed name file.now path.now value.now)
-task_written name (Edit file (Del path (word.Json value))) is = undashed name (codes "del") (file.now ∷ path.now ∷ value.now ∷ []) _ del_met is.1 (del_dashed name file.now path.now value.now)
-task_written name (Edit file (Clear path)) is = undashed name (codes "clear") (file.now ∷ path.now ∷ []) _ clear_met is.1 (clear_dashed name file.now path.now)
-task_written name (Edit file ClearAll) is = all_cleared name file.now is.1
-task_written name (Edit file (Inc key by)) is = undashed name (codes "inc") (file.now ∷ key.now ∷ by.now ∷ []) _ inc_met is.1 (inc_dashed name file.now key.now by.now)
-task_written name (Edit file (Dec key by)) is = undashed name (codes "dec") (file.now ∷ key.now ∷ by.now ∷ []) _ dec_met is.1 (dec_dashed name file.now key.now by.now)
-task_written name (EditLines file) is = undashed name (codes "edit") (file.now ∷ []) _ edit_lines_met is.1 (edit_lines_dashed name file.now)
-task_written name (Get file path) is = undashed name (codes "get") (file.now ∷ path.now ∷ []) _ get_met is.1 (get_dashed name file.now path.now)
-task_written name (ShowPretty file path) is = pretty_named name file.now path.now is.1
-task_written name (Compact file) is = undashed name (codes "compact") (file.now ∷ []) _ compact_met is.1 (compact_dashed name file.now)
-task_written name (Status file) is = undashed name (codes "status") (file.now ∷ []) _ status_met is.1 (status_dashed name file.now)
-task_written name (Show file path) is = undashed name (codes "show") (file.now ∷ path.now ∷ []) _ show_met is.1 (show_dashed name file.now path.now)
-task_written name (Sync words) is = sync_named name words.file.now words.addr.now words.timeout.now (option_map (λ t. t.now) words.token_file) is.1
-task_written name (Pair first second) is = undashed name (codes "pair") (first.now ∷ second.now ∷ []) _ pair_met is.1 (pair_dashed name first.now second.now)
-task_written name (Serve words) is = serve_named name words.file.now words.addr.now words.sessions.now words.timeout.now is.1
-task_written name (Run words) is = run_named words.http.now words.every.now (map (λ p. p.now) words.peers.items) (option_map (λ t. t.now) words.token_file) words.is_open words.log name words.file.now is.1
-task_written name (Dump file path) is = undashed name (codes "dump") (file.now ∷ path.now ∷ []) _ dump_met is.1 (dump_dashed name file.now path.now)
-task_written name (Ask file) is = undashed name (codes "ask") (file.now ∷ []) _ ask_met is.1 (ask_dashed name file.now)
-task_written name (Answer file) is = undashed name (codes "answer") (file.now ∷ []) _ answer_met is.1 (answer_dashed name file.now)
-task_written name (Take file question answer) is = undashed name (codes "take") (file.now ∷ question.now ∷ answer.now ∷ []) _ take_met is.1 (take_dashed name file.now question.now answer.now)
-task_written name (Merge file from) is = undashed name (codes "merge") (file.now ∷ from.now ∷ []) _ merge_met is.1 (merge_dashed name file.now from.now)
-task_written name (Check question answer) is = undashed name (codes "check") (question.now ∷ answer.now ∷ []) _ check_met is.1 (check_dashed name question.now answer.now)
-task_written name (Conflicts file path) is = undashed name (codes "conflicts") (file.now ∷ path.now ∷ []) _ conflicts_met is.1 (conflicts_dashed name file.now path.now)
-task_written name (Diff file other) is = undashed name (codes "diff") (file.now ∷ other.now ∷ []) _ diff_met is.1 (diff_dashed name file.now other.now)
-task_written name (Watch words) is = watch_named name words.node.now words.path.now (option_map (λ t. t.now) words.token_file) is.1
-
--- ---- what may be left out
-
-pub root_shown : (name file : Text) → AreData (file ∷ []) → Names (name ∷ codes "show" ∷ file ∷ []) (codes "show" ∷ file ∷ [] ∷ [])
-root_shown name file are = undashed name (codes "show") (file ∷ []) _ show_met are (show_root_dashed name file)
-
-pub once_served : (name file addr : Text) → AreData (file ∷ addr ∷ []) → Names (name ∷ codes "serve" ∷ file ∷ addr ∷ []) (codes "serve" ∷ file ∷ addr ∷ codes "1" ∷ codes "60" ∷ [])
-once_served name file addr are = undashed name (codes "serve") (file ∷ addr ∷ []) _ serve_met are (once_dashed name file addr)
-
-pub sync_alone : (name file addr : Text) → AreData (file ∷ addr ∷ []) → Names (name ∷ codes "sync" ∷ file ∷ addr ∷ []) (codes "sync" ∷ file ∷ addr ∷ codes "60" ∷ [])
-sync_alone name file addr are = undashed name (codes "sync") (file ∷ addr ∷ []) _ sync_met are (sync_alone_dashed name file addr)
-
-pub run_alone : (name file : Text) → AreData (file ∷ []) → Names (name ∷ codes "run" ∷ file ∷ []) (codes "run" ∷ file ∷ codes "127.0.0.1:7780" ∷ codes "10" ∷ [])
-run_alone name file are = undashed name (codes "run") (file ∷ []) _ run_met are (run_alone_dashed name file)
-
-pub watch_root : (name node : Text) → AreData (node ∷ []) → Names (name ∷ codes "watch" ∷ node ∷ []) (codes "watch" ∷ node ∷ [] ∷ [])
-watch_root name node are = undashed name (codes "watch") (node ∷ []) _ watch_met are (watch_root_dashed name node)
+task_written name (EditLines file) is = plain_written _ _ edit_lines_plain name (file.now ∷ []) _ is.1 (refl, refl)
+task_written name (Get file path) is =
+    named get_plan get_takes name (placed file.now ∷ placed path.now ∷ []) _ is.1 refl refl refl
+task_written name (GetRaw file path which) is = raw_written name file.now path.now which is.1
+task_written name (Show file path) is =
+    named show_plan show_takes name (placed file.now ∷ placed path.now ∷ []) _ is.1 refl refl refl
+task_written name (ShowPretty file path) is =
+    named show_plan show_takes name (alone (codes "--pretty") ∷ placed file.now ∷ placed path.now ∷ []) _ is.1 refl refl refl
+task_written name (Dump file path) is =
+    plain_written _ _ dump_plain name (file.now ∷ path.now ∷ []) _ is.1 (inl (refl, refl))
+task_written name (Compact file) is = plain_written _ _ compact_plain name (file.now ∷ []) _ is.1 (refl, refl)
+task_written name (Status file) is = plain_written _ _ status_plain name (file.now ∷ []) _ is.1 (refl, refl)
+task_written name (Sync words) is =
+    sync_written name words.file.now words.addr.now words.timeout.now (option_map (λ t. t.now) words.token_file) is.1
+task_written name (Pair first second) is =
+    plain_written _ _ pair_plain name (first.now ∷ second.now ∷ []) _ is.1 (refl, refl)
+task_written name (Serve words) is =
+    let options = apart (codes "--sessions") words.sessions.now ∷ apart (codes "--timeout") words.timeout.now ∷ [] in
+    named serve_plan serve_takes name (placed words.file.now ∷ placed words.addr.now ∷ options) _ is.1 refl refl refl
+task_written name (Run words) is =
+    run_named words.http.now words.every.now (map (λ p. p.now) words.peers.items) (option_map (λ t. t.now) words.token_file) words.is_open words.log
+    name words.file.now is.1
+task_written name (Ask file) is = plain_written _ _ ask_plain name (file.now ∷ []) _ is.1 (refl, refl)
+task_written name (Answer file) is = plain_written _ _ answer_plain name (file.now ∷ []) _ is.1 (refl, refl)
+task_written name (Take file question answer) is =
+    plain_written _ _ take_plain name (file.now ∷ question.now ∷ answer.now ∷ []) _ is.1 (refl, refl)
+task_written name (Merge file from) is =
+    plain_written _ _ merge_plain name (file.now ∷ from.now ∷ []) _ is.1 (refl, refl)
+task_written name (Check question answer) is =
+    plain_written _ _ check_plain name (question.now ∷ answer.now ∷ []) _ is.1 (refl, refl)
+task_written name (Conflicts file path) is =
+    plain_written _ _ conflicts_plain name (file.now ∷ path.now ∷ []) _ is.1 (inl (refl, refl))
+task_written name (Diff file other) is =
+    plain_written _ _ diff_plain name (file.now ∷ other.now ∷ []) _ is.1 (refl, refl)
+task_written name (Watch words) is =
+    watch_written name words.node.now words.path.now (option_map (λ t. t.now) words.token_file) is.1

@@ -29,4 +29,5 @@ pub mod Refusing
 pub mod RowsById
 pub mod RuleFacts
 pub mod Splitting
+pub mod TypedNames
 pub mod WatchPlan

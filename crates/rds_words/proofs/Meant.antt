@@ -5,7 +5,7 @@ use Rattle.std.specs.Str.{bytes_eq}
 use Rattle.std.proofs.lemmas.Slice.Eq.{bytes_eq-Decides}
 use Rattle.clap.specs.Words.{Text}
 use Rattle.rds_words.specs.Entered.{Names, mistakes_in}
-use Rattle.rds_words.specs.Spelling.{AreSpelled, AreWordsOf, Count, IsCounted, OtherCommandsAreRefused, OtherWordsAreRefused, OtherWordsWithoutOptions, WordsMeanTheirSpelling, WordsWithoutOptions, counts, option_counts}
+use Rattle.rds_words.specs.Spelling.{AreSpelled, AreWordsOf, Count, IsGivenWords, OtherCommandsAreRefused, OtherWordsAreRefused, OtherWordsWithoutOptions, WordsMeanTheirSpelling, WordsWithoutOptions, counts, option_counts}
 use Rattle.rds_words.specs.WithOptions.{MeansWithOptions, OptionsMeanTheirSpelling, with_options}
 use Rattle.rds_words.proofs.ClearPlan.{clear_plan, clear_takes}
 use Rattle.rds_words.proofs.Counting.{refused_isnt}
@@ -22,21 +22,21 @@ same_words : {command : Text} {a b : List Text} → ◌≡◌ {A = Option (List 
 same_words e = cc
 
 module _ (command : Text) (count : Count) (is : IsKnown command count) where
-  given_names : (called : Text) (given behind words : List Text) → AreSpelled given behind → IsCounted count given words → Names (called ∷ command ∷ behind) (command ∷ words)
+  given_names : (called : Text) (given behind words : List Text) → AreSpelled given behind → IsGivenWords count given words → Names (called ∷ command ∷ behind) (command ∷ words)
   given_names called given behind words spelled counted =
       let named = is.counted.named called given words counted in (
         mistaken_alike called command is.shape given behind is.is spelled ∙ named.0,
         named_alike called command is.shape given behind is.is spelled ∙ named.1,
       )
 
-  given_counted : (called : Text) (given behind : List Text) → AreSpelled given behind → mistakes_in (called ∷ command ∷ behind) ≡ [] → (words : List Text) × IsCounted count given words
+  given_counted : (called : Text) (given behind : List Text) → AreSpelled given behind → mistakes_in (called ∷ command ∷ behind) ≡ [] → (words : List Text) × IsGivenWords count given words
   given_counted called given behind spelled none =
       is.counted.counted called given (sym (mistaken_alike called command is.shape given behind is.is spelled) ∙ none)
 
-  named_counted : (called : Text) (given behind words : List Text) → AreSpelled given behind → Names (called ∷ command ∷ behind) (command ∷ words) → IsCounted count given words
+  named_counted : (called : Text) (given behind words : List Text) → AreSpelled given behind → Names (called ∷ command ∷ behind) (command ∷ words) → IsGivenWords count given words
   named_counted called given behind words spelled names =
       let found = given_counted called given behind spelled names.0 in
-      subst (IsCounted count given) (same_words (sym (given_names called given behind found.0 spelled found.1).1 ∙ names.1)) found.1
+      subst (IsGivenWords count given) (same_words (sym (given_names called given behind found.0 spelled found.1).1 ∙ names.1)) found.1
 
 module _ (command : Text) (count : Count) (is : IsPlain command count) where
   unmistaken_by : (called : Text) (behind : List Text) → mistakes_in (called ∷ command ∷ behind) ≡ [] → ((given : List Text) × AreSpelled given behind) ⊎ HasOption behind

@@ -7,7 +7,7 @@ use Rattle.rds_words.specs.Commands.{file_rule}
 use Rattle.rds_words.specs.Raw.{access_words, changed_words, init_words, log_words, peer_words, raw_words, token_words}
 use Rattle.rds_words.specs.Task.{changed_words_in, init_words_by, named_words, words_in}
 use Rattle.rds_words.specs.Typed.{many_values, no_value, one_value}
-use Rattle.rds_words.specs.WithOptions.{del_with, entry_with, get_with, init_with, run_with, serve_with, show_with, sync_with}
+use Rattle.rds_words.specs.WithOptions.{del_with, put_with, get_with, init_with, run_with, serve_with, show_with, sync_with}
 use Rattle.rds_words.proofs.CommandWords.{node_on_words, shape_behind}
 use Rattle.rds_words.proofs.Dashed.{data_next, data_turn}
 use Rattle.rds_words.proofs.OptionNames.{is_name, is_none, told}
@@ -195,7 +195,7 @@ module _ (command : Text) where
     optional = [];
     more = None;
     known = text_option ∷ changed_option ∷ [];
-    with_options = entry_with;
+    with_options = put_with;
   }
 
   entry_text : IsFlag entry_shape flag_reading (codes "--text") (codes "TEXT")

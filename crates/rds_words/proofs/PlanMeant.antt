@@ -13,7 +13,7 @@ use Rattle.clap.specs.Walk.{Held, Waiting, Walk, finished, has_row, idle, option
 use Rattle.rds_words.specs.Entered.{mistakes_in, named_in}
 use Rattle.rds_words.specs.Spelling.{AreSpelled}
 use Rattle.rds_words.specs.Task.{words_in}
-use Rattle.rds_words.specs.Typed.{AreAllowed, AreTyped, AtMostOne, Form, HaveOptionsOf, IsAllowed, IsOptionWith, IsRest, Options, Part, has_none, has_value, many_values, no_value, one_value, typed_flag, typed_option, typed_word, values_among, words_among}
+use Rattle.rds_words.specs.Typed.{AreAllowed, AreTyped, AtMostOne, Form, HaveOptionsOf, IsAllowed, IsOptionWith, IsRest, Options, Part, is_bare, has_value, many_values, no_value, one_value, typed_flag, typed_option, typed_word, values_among, words_among}
 use Rattle.rds_words.specs.WithOptions.{AreTaken, MeansWithOptions}
 use Rattle.rds_words.specs.Written.{is_data}
 use Rattle.rds_words.proofs.Counting.{refused_isnt}
@@ -42,7 +42,7 @@ has_value_by n m no_value flag = absurd (is_none (sym flag))
 has_value_by n m one_value flag = refl
 has_value_by n m many_values flag = refl
 
-has_none_by : (n m : Text) (form : Form) → is_flag form ≡ true → has_none n (m, form) ≡ bytes_eq n m
+has_none_by : (n m : Text) (form : Form) → is_flag form ≡ true → is_bare n (m, form) ≡ bytes_eq n m
 has_none_by n m no_value flag = refl
 has_none_by n m one_value flag = absurd (is_none flag)
 has_none_by n m many_values flag = absurd (is_none flag)
@@ -62,12 +62,12 @@ valued_listed o (k ∷ ks) (inl is) flag =
     (first_true (has_value (name_of o) (name_of o, o.form)) (list_any (has_value (name_of o)) (listed_of ks)) (has_value_by (name_of o) (name_of o) o.form flag ∙ (bytes_eq-Decides (name_of o) (name_of o)).1 refl))
 valued_listed o (k ∷ ks) (inr is) flag = either_true (has_value (name_of o) (name_of k, k.form)) (list_any (has_value (name_of o)) (listed_of ks)) (valued_listed o ks is flag)
 
-flag_listed : (o : Known) (ks : List Known) → IsIn o ks → is_flag o.form ≡ true → list_any (has_none (name_of o)) (listed_of ks) ≡ true
+flag_listed : (o : Known) (ks : List Known) → IsIn o ks → is_flag o.form ≡ true → list_any (is_bare (name_of o)) (listed_of ks) ≡ true
 flag_listed o [] is flag = absurd is
 flag_listed o (k ∷ ks) (inl is) flag =
-    subst (λ (k : Known). list_any (has_none (name_of o)) (listed_of (k ∷ ks)) ≡ true) (sym is)
-    (first_true (has_none (name_of o) (name_of o, o.form)) (list_any (has_none (name_of o)) (listed_of ks)) (has_none_by (name_of o) (name_of o) o.form flag ∙ (bytes_eq-Decides (name_of o) (name_of o)).1 refl))
-flag_listed o (k ∷ ks) (inr is) flag = either_true (has_none (name_of o) (name_of k, k.form)) (list_any (has_none (name_of o)) (listed_of ks)) (flag_listed o ks is flag)
+    subst (λ (k : Known). list_any (is_bare (name_of o)) (listed_of (k ∷ ks)) ≡ true) (sym is)
+    (first_true (is_bare (name_of o) (name_of o, o.form)) (list_any (is_bare (name_of o)) (listed_of ks)) (has_none_by (name_of o) (name_of o) o.form flag ∙ (bytes_eq-Decides (name_of o) (name_of o)).1 refl))
+flag_listed o (k ∷ ks) (inr is) flag = either_true (is_bare (name_of o) (name_of k, k.form)) (list_any (is_bare (name_of o)) (listed_of ks)) (flag_listed o ks is flag)
 
 or_split : (a b : Bool) → (a || b) ≡ true → (a ≡ true) ⊎ (b ≡ true)
 or_split true b e = inl refl
@@ -87,17 +87,17 @@ valued_among n (k ∷ ks) is = by (valued_among n ks) (or_split (has_value n (na
     by on (inl here) = (let t = this k.form here in (k, inl refl, t.0, t.1))
     by on (inr there) = (let o = on there in (o.0, inr o.1, o.2, o.3))
 
-flag_among : (n : Text) (ks : List Known) → list_any (has_none n) (listed_of ks) ≡ true → (o : Known) × IsIn o ks × (n ≡ name_of o) × (is_flag o.form ≡ true)
+flag_among : (n : Text) (ks : List Known) → list_any (is_bare n) (listed_of ks) ≡ true → (o : Known) × IsIn o ks × (n ≡ name_of o) × (is_flag o.form ≡ true)
 flag_among n [] is = absurd (is_none is)
-flag_among n (k ∷ ks) is = by (flag_among n ks) (or_split (has_none n (name_of k, k.form)) _ is)
+flag_among n (k ∷ ks) is = by (flag_among n ks) (or_split (is_bare n (name_of k, k.form)) _ is)
   where
-    this : (form : Form) → has_none n (name_of k, form) ≡ true → (n ≡ name_of k) × (is_flag form ≡ true)
+    this : (form : Form) → is_bare n (name_of k, form) ≡ true → (n ≡ name_of k) × (is_flag form ≡ true)
     this no_value h = ((bytes_eq-Decides n (name_of k)).0 h, refl)
     this one_value h = absurd (is_none h)
     this many_values h = absurd (is_none h)
 
-    by : (list_any (has_none n) (listed_of ks) ≡ true → (o : Known) × IsIn o ks × (n ≡ name_of o) × (is_flag o.form ≡ true))
-        → (has_none n (name_of k, k.form) ≡ true) ⊎ (list_any (has_none n) (listed_of ks) ≡ true) → (o : Known) × IsIn o (k ∷ ks) × (n ≡ name_of o) × (is_flag o.form ≡ true)
+    by : (list_any (is_bare n) (listed_of ks) ≡ true → (o : Known) × IsIn o ks × (n ≡ name_of o) × (is_flag o.form ≡ true))
+        → (is_bare n (name_of k, k.form) ≡ true) ⊎ (list_any (is_bare n) (listed_of ks) ≡ true) → (o : Known) × IsIn o (k ∷ ks) × (n ≡ name_of o) × (is_flag o.form ≡ true)
     by on (inl here) = (let t = this k.form here in (k, inl refl, t.0, t.1))
     by on (inr there) = (let o = on there in (o.0, inr o.1, o.2, o.3))
 

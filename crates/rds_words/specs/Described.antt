@@ -38,12 +38,12 @@ rule_by (Flag long) id = flag_rule id long.now
 abbrev pub described_rule : Word → Rule
 described_rule word = rule_by word.kind word.id.now
 
-abbrev pub with_word : App → Word → App
-with_word command word = with_rule command (described_rule word)
+abbrev pub with_argument : App → Word → App
+with_argument command word = with_rule command (described_rule word)
 
 -- a command with its words in their order
 abbrev pub described_app : Described → App
-described_app command = fold with_word (new_app command.name.now) command.words.now
+described_app command = fold with_argument (new_app command.name.now) command.words.now
 
 abbrev pub with_described : App → Described → App
 with_described program command = with_command program (described_app command)

@@ -47,13 +47,13 @@ value_from None = Err BadLine
 value_from (Some d) = scalar_of d
 
 -- the value that a text of JSON is
-abbrev pub value_of : List ℕ → Result Scalar Fault
-value_of text = value_from (read text)
+abbrev pub value_read : List ℕ → Result Scalar Fault
+value_read text = value_from (read text)
 
 -- the value that a word is, as JSON or as the text itself
-abbrev pub value_in : ValueWord → Result Scalar Fault
-value_in (word.Json value) = value_of value.now
-value_in (word.Text value) = scalar_of_text value.now
+abbrev pub value_meant : ValueWord → Result Scalar Fault
+value_meant (word.Json value) = value_read value.now
+value_meant (word.Text value) = scalar_of_text value.now
 
 -- a path in words, which isn't the root's: that is said by `--all`
 abbrev pub part_of : List ℕ → Result (List (List ℕ)) Fault
@@ -78,9 +78,9 @@ IsCount make key by r =
 
 -- the command, or the fault of the first word that is none
 abbrev pub IsCommand : EditWords → Result Command Fault → Type 0
-IsCommand (Set path value) r = r ≡ (path_of path.now >>= λ p. value_in value >>= λ v. Ok (commands.Set p v))
-IsCommand (Add path value) r = r ≡ (path_of path.now >>= λ p. value_in value >>= λ v. Ok (commands.Add p v))
-IsCommand (Del path value) r = r ≡ (path_of path.now >>= λ p. value_in value >>= λ v. Ok (commands.Del p v))
+IsCommand (Set path value) r = r ≡ (path_of path.now >>= λ p. value_meant value >>= λ v. Ok (commands.Set p v))
+IsCommand (Add path value) r = r ≡ (path_of path.now >>= λ p. value_meant value >>= λ v. Ok (commands.Add p v))
+IsCommand (Del path value) r = r ≡ (path_of path.now >>= λ p. value_meant value >>= λ v. Ok (commands.Del p v))
 IsCommand (Clear path) r = r ≡ (part_of path.now >>= λ p. Ok (commands.Clear p))
 IsCommand ClearAll r = r ≡ Ok (commands.Clear [])
 IsCommand (Inc key by) r = IsCount commands.Inc key.now by.now r

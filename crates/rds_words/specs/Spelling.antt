@@ -43,12 +43,12 @@ pub data Count : Type 0 where
   before : ℕ → List Text → Count
 
 -- these words were given, and a task has these behind its command
-abbrev pub IsCounted : Count → List Text → List Text → Type 0
-IsCounted (exactly n) given words = (length given ≡ n) × (words ≡ given)
-IsCounted (or_root n) given words =
+abbrev pub IsGivenWords : Count → List Text → List Text → Type 0
+IsGivenWords (exactly n) given words = (length given ≡ n) × (words ≡ given)
+IsGivenWords (or_root n) given words =
     ((length given ≡ n) × (words ≡ given)) ⊎ ((length given + 1 ≡ n) × (words ≡ given ++ [] ∷ []))
-IsCounted (at_least n) given words = (n ≤ length given) × (words ≡ given)
-IsCounted (before n left_out) given words = (length given ≡ n) × (words ≡ given ++ left_out)
+IsGivenWords (at_least n) given words = (n ≤ length given) × (words ≡ given)
+IsGivenWords (before n left_out) given words = (length given ≡ n) × (words ≡ given ++ left_out)
 
 -- the commands that have no option, each with how many words
 abbrev pub counts : List (Text × Count)
@@ -104,7 +104,7 @@ HasCommand entered =
 
 -- what stands behind a command that takes so many words names the task of these
 abbrev pub AreWordsOf : Count → List Text → List Text → Type 0
-AreWordsOf count behind words = (given : List Text) × AreSpelled given behind × IsCounted count given words
+AreWordsOf count behind words = (given : List Text) × AreSpelled given behind × IsGivenWords count given words
 
 abbrev pub WordsMeanTheirSpelling : Type 0
 WordsMeanTheirSpelling =
@@ -121,13 +121,13 @@ abbrev pub WordsWithoutOptions : Type 0
 WordsWithoutOptions =
     (called command : Text) (count : Count) → count_in option_counts command ≡ Some count
     → (given behind : List Text) → AreSpelled given behind → (words : List Text)
-    → Names (called ∷ command ∷ behind) (command ∷ words) ↔ IsCounted count given words
+    → Names (called ∷ command ∷ behind) (command ∷ words) ↔ IsGivenWords count given words
 
 abbrev pub OtherWordsWithoutOptions : Type 0
 OtherWordsWithoutOptions =
     (called command : Text) (count : Count) → count_in option_counts command ≡ Some count
     → (given behind : List Text) → AreSpelled given behind
-    → ((words : List Text) → IsCounted count given words → ⊥) → mistakes_in (called ∷ command ∷ behind) ≢ []
+    → ((words : List Text) → IsGivenWords count given words → ⊥) → mistakes_in (called ∷ command ∷ behind) ≢ []
 
 abbrev pub OtherCommandsAreRefused : Type 0
 OtherCommandsAreRefused = (entered : List Text) → (HasCommand entered → ⊥) → mistakes_in entered ≢ []

@@ -99,42 +99,42 @@ edit_words file (Inc key by) = codes "inc" ∷ file ∷ key.now ∷ by.now ∷ [
 edit_words file (Dec key by) = codes "dec" ∷ file ∷ key.now ∷ by.now ∷ []
 
 -- a task in words: the command's name, and its words in their order
-abbrev pub words_of : Task → List Text
-words_of Join = codes "join" ∷ []
-words_of Sim = codes "sim" ∷ []
-words_of Files = codes "files" ∷ []
-words_of Faults = codes "faults" ∷ []
-words_of (Init words) =
+abbrev pub task_words : Task → List Text
+task_words Join = codes "join" ∷ []
+task_words Sim = codes "sim" ∷ []
+task_words Files = codes "files" ∷ []
+task_words Faults = codes "faults" ∷ []
+task_words (Init words) =
     codes "init" ∷ words.file.now ∷ words.group.now ∷ words.own.now ∷ map (λ n. n.now) words.names.items
-words_of (InitFrom words) = codes "init" ∷ words.file.now ∷ words.own.now ∷ (codes "--from=" ++ words.from.now) ∷ []
-words_of (Grow words) = codes "grow" ∷ words.file.now ∷ map (λ n. n.now) words.names.items
-words_of (Edit file edit) = edit_words file.now edit
-words_of (EditIfChanged file edit) = changed_words true (edit_words file.now edit)
-words_of (EditLines file) = codes "edit" ∷ file.now ∷ []
-words_of (Get file path) = codes "get" ∷ file.now ∷ path.now ∷ []
-words_of (GetRaw file path which) = codes "get" ∷ file.now ∷ path.now ∷ raw_word which ∷ []
-words_of (Show file path) = codes "show" ∷ file.now ∷ path.now ∷ []
-words_of (ShowPretty file path) = codes "show" ∷ file.now ∷ path.now ∷ codes "--pretty" ∷ []
-words_of (Dump file path) = codes "dump" ∷ file.now ∷ path.now ∷ []
-words_of (Compact file) = codes "compact" ∷ file.now ∷ []
-words_of (Status file) = codes "status" ∷ file.now ∷ []
-words_of (Serve words) = codes "serve" ∷ words.file.now ∷ words.addr.now ∷ words.sessions.now ∷ words.timeout.now ∷ []
-words_of (Run words) =
+task_words (InitFrom words) = codes "init" ∷ words.file.now ∷ words.own.now ∷ (codes "--from=" ++ words.from.now) ∷ []
+task_words (Grow words) = codes "grow" ∷ words.file.now ∷ map (λ n. n.now) words.names.items
+task_words (Edit file edit) = edit_words file.now edit
+task_words (EditIfChanged file edit) = changed_words true (edit_words file.now edit)
+task_words (EditLines file) = codes "edit" ∷ file.now ∷ []
+task_words (Get file path) = codes "get" ∷ file.now ∷ path.now ∷ []
+task_words (GetRaw file path which) = codes "get" ∷ file.now ∷ path.now ∷ raw_word which ∷ []
+task_words (Show file path) = codes "show" ∷ file.now ∷ path.now ∷ []
+task_words (ShowPretty file path) = codes "show" ∷ file.now ∷ path.now ∷ codes "--pretty" ∷ []
+task_words (Dump file path) = codes "dump" ∷ file.now ∷ path.now ∷ []
+task_words (Compact file) = codes "compact" ∷ file.now ∷ []
+task_words (Status file) = codes "status" ∷ file.now ∷ []
+task_words (Serve words) = codes "serve" ∷ words.file.now ∷ words.addr.now ∷ words.sessions.now ∷ words.timeout.now ∷ []
+task_words (Run words) =
     codes "run" ∷ words.file.now ∷ words.http.now ∷ words.every.now
     ∷ (peer_words (map (λ p. p.now) words.peers.items)
     ++ (access_words (option_map (λ t. t.now) words.token_file) words.is_open ++ log_words words.log))
-words_of (Sync words) =
+task_words (Sync words) =
     codes "sync" ∷ words.file.now ∷ words.addr.now ∷ words.timeout.now
     ∷ token_words (option_map (λ t. t.now) words.token_file)
-words_of (Pair first second) = codes "pair" ∷ first.now ∷ second.now ∷ []
-words_of (Ask file) = codes "ask" ∷ file.now ∷ []
-words_of (Answer file) = codes "answer" ∷ file.now ∷ []
-words_of (Take file question answer) = codes "take" ∷ file.now ∷ question.now ∷ answer.now ∷ []
-words_of (Merge file from) = codes "merge" ∷ file.now ∷ from.now ∷ []
-words_of (Check question answer) = codes "check" ∷ question.now ∷ answer.now ∷ []
-words_of (Conflicts file path) = codes "conflicts" ∷ file.now ∷ path.now ∷ []
-words_of (Diff file other) = codes "diff" ∷ file.now ∷ other.now ∷ []
-words_of (Watch words) =
+task_words (Pair first second) = codes "pair" ∷ first.now ∷ second.now ∷ []
+task_words (Ask file) = codes "ask" ∷ file.now ∷ []
+task_words (Answer file) = codes "answer" ∷ file.now ∷ []
+task_words (Take file question answer) = codes "take" ∷ file.now ∷ question.now ∷ answer.now ∷ []
+task_words (Merge file from) = codes "merge" ∷ file.now ∷ from.now ∷ []
+task_words (Check question answer) = codes "check" ∷ question.now ∷ answer.now ∷ []
+task_words (Conflicts file path) = codes "conflicts" ∷ file.now ∷ path.now ∷ []
+task_words (Diff file other) = codes "diff" ∷ file.now ∷ other.now ∷ []
+task_words (Watch words) =
     codes "watch" ∷ words.node.now ∷ words.path.now ∷ token_words (option_map (λ t. t.now) words.token_file)
 
 -- the words under these ids, where each has one

@@ -62,10 +62,10 @@ has_value option (name, no_value) = false
 has_value option (name, one_value) = bytes_eq option name
 has_value option (name, many_values) = bytes_eq option name
 
-abbrev pub has_none : Text → Text × Form → Bool
-has_none option (name, no_value) = bytes_eq option name
-has_none option (name, one_value) = false
-has_none option (name, many_values) = false
+abbrev pub is_bare : Text → Text × Form → Bool
+is_bare option (name, no_value) = bytes_eq option name
+is_bare option (name, one_value) = false
+is_bare option (name, many_values) = false
 
 -- each option among them is one of these
 abbrev pub HaveOptionsOf : Options → List Part → Type 0
@@ -74,7 +74,7 @@ HaveOptionsOf options (typed_word word ∷ parts) = HaveOptionsOf options parts
 HaveOptionsOf options (typed_option option value ∷ parts) =
     (list_any (has_value option) options ≡ true) × HaveOptionsOf options parts
 HaveOptionsOf options (typed_flag option ∷ parts) =
-    (list_any (has_none option) options ≡ true) × HaveOptionsOf options parts
+    (list_any (is_bare option) options ≡ true) × HaveOptionsOf options parts
 
 abbrev pub AtMostOne : List Text → Type 0
 AtMostOne [] = ⊤

@@ -111,8 +111,8 @@ watch_with = record {
 }
 
 -- `set` and `add`
-abbrev pub entry_with : WithOptions
-entry_with = record {
+abbrev pub put_with : WithOptions
+put_with = record {
   options = (codes "--text", no_value) ∷ (codes "--if-changed", no_value) ∷ [];
   takes = λ n. n == 3;
   words_for = λ given values.
@@ -158,8 +158,8 @@ init_with = record {
 abbrev pub with_options : List (Text × WithOptions)
 with_options =
     (codes "init", init_with)
-    ∷ (codes "set", entry_with)
-    ∷ (codes "add", entry_with)
+    ∷ (codes "set", put_with)
+    ∷ (codes "add", put_with)
     ∷ (codes "del", del_with)
     ∷ (codes "clear", clear_with)
     ∷ (codes "get", get_with)

@@ -40,7 +40,7 @@ use Rattle.rds_words.specs.declared.tasks.EditWords.TheVariants.{Set, Add, Del, 
 use Rattle.rds_words.specs.declared.tasks.ValueWord.{ValueWord}
 use Rattle.rds_words.specs.declared.tasks.ValueWord.TheVariants as word
 use Rattle.rds_words.specs.Raw.{access_words, log_words, peer_words, token_words}
-use Rattle.rds_words.specs.Task.{raw_word, words_of}
+use Rattle.rds_words.specs.Task.{raw_word, task_words}
 
 -- the word can't be taken for an option: it doesn't begin with a hyphen and a character behind it
 abbrev pub is_data : Text → Bool
@@ -98,7 +98,7 @@ words_written (Run words) =
     codes "run" ∷ words.file.now ∷ codes "--http" ∷ words.http.now ∷ codes "--every" ∷ words.every.now
     ∷ (peer_words (map (λ p. p.now) words.peers.items)
     ++ (access_words (option_map (λ t. t.now) words.token_file) words.is_open ++ log_words words.log))
-words_written task = words_of task
+words_written task = task_words task
 
 -- two dashes stand between the command, with its options, and its words
 abbrev pub dashes_in : List Text → List Text
@@ -127,7 +127,7 @@ words_dashed (Run words) =
 words_dashed (Watch words) =
     codes "watch" ∷ (token_words (option_map (λ t. t.now) words.token_file)
     ++ codes "--" ∷ words.node.now ∷ words.path.now ∷ [])
-words_dashed task = dashes_in (words_of task)
+words_dashed task = dashes_in (task_words task)
 
 -- `set` and `add` alone can be told to write only what changes something
 abbrev pub MayBeUnchanged : EditWords → Type 0
@@ -152,7 +152,7 @@ given_words (ShowPretty file path) = file.now ∷ path.now ∷ []
 given_words (Sync words) = words.file.now ∷ words.addr.now ∷ words.timeout.now ∷ []
 given_words (Run words) = words.file.now ∷ words.http.now ∷ words.every.now ∷ []
 given_words (Watch words) = words.node.now ∷ words.path.now ∷ []
-given_words task = drop 1 (words_of task)
+given_words task = drop 1 (task_words task)
 
 -- the words behind the command are data
 abbrev pub IsWritable : Task → Type 0

@@ -17,7 +17,7 @@ ghost use Rattle.rds_words.specs.Spelling.{
   WordsMeanTheirSpelling,
   WordsWithoutOptions,
 };
-ghost use Rattle.rds_words.specs.Task.{words_of};
+ghost use Rattle.rds_words.specs.Task.{task_words};
 ghost use Rattle.rds_words.specs.WithOptions.{OptionsMeanTheirSpelling};
 ghost use Rattle.rds_words.specs.Written.{AreData, HasNames, IsWritable, words_dashed, words_written};
 
@@ -30,9 +30,9 @@ ghost use Rattle.rds_words.specs.Written.{AreData, HasNames, IsWritable, words_d
 /// behind them. The function does nothing: its contract is these laws.
 pub fn word_laws()
     ensures written { (name : Text) (task : Task) → IsWritable task
-        → Names (name ∷ words_written task) (words_of task) }
+        → Names (name ∷ words_written task) (task_words task) }
     ensures dashed { (name : Text) (task : Task) → HasNames task
-        → Names (name ∷ words_dashed task) (words_of task) }
+        → Names (name ∷ words_dashed task) (task_words task) }
     ensures all_cleared { (name : Text) (file : Text) → AreData (file ∷ [])
         → Names (name ∷ codes "clear" ∷ file ∷ codes "--all" ∷ []) (codes "clear" ∷ file ∷ [] ∷ codes "--all" ∷ []) }
     ensures show { ShowMayLackWords }

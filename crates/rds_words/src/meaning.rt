@@ -9,8 +9,8 @@ ghost use Rattle.rds_words.specs.Meaning.{
   names_in,
   part_of,
   roster_in,
-  value_in,
-  value_of,
+  value_meant,
+  value_read,
 };
 
 use crate::tasks::{EditWords, ValueWord};
@@ -100,7 +100,7 @@ pub fn names_in(alloc: Global, texts: &[&str]) -> Result<Vec<Name>, Fault>
 }
 
 fn value_in(alloc: Global, word: ValueWord<'_>) -> Result<Scalar, Fault>
-    ensures { MayGive result (value_in word.entry) }
+    ensures { MayGive result (value_meant word.entry) }
 {
     match word {
         ValueWord::Json(value) => value_of(alloc, value),
@@ -109,7 +109,7 @@ fn value_in(alloc: Global, word: ValueWord<'_>) -> Result<Scalar, Fault>
 }
 
 fn value_of(alloc: Global, text: &str) -> Result<Scalar, Fault>
-    ensures { MayGive result (value_of text.now) }
+    ensures { MayGive result (value_read text.now) }
 {
     match Value::from_str(alloc, text) {
         Ok(value) => scalar(alloc, &value),

@@ -27,7 +27,7 @@ ghost use Rattle.rds_words.specs.Task.{
   value_words,
   watch_words_in,
   words_in,
-  words_of,
+  task_words,
   words_under,
 };
 
@@ -43,7 +43,7 @@ pub fn named_task<'a>(
     alloc: Global,
     matches: &ArgMatches<'a>,
 ) -> Result<Option<Task<'a>>, AllocError>
-    ensures { IfOk result (λ task. option_map words_of task
+    ensures { IfOk result (λ task. option_map task_words task
         ≡ words_in (subcommand_rows_of matches.now)) }
 {
     match entered(matches) {
@@ -65,7 +65,7 @@ fn entered<'m, 'a>(matches: &'m ArgMatches<'a>) -> Option<(&'a str, &'m ArgMatch
 
 // The task of a command but `init`, `grow` and `run`.
 fn plain_task<'a>(name: &str, inner: &ArgMatches<'a>) -> Option<Task<'a>>
-    ensures { option_map words_of result
+    ensures { option_map task_words result
         ≡ named_words name.now (plain_words_behind name.now (rows_of (found_of inner.now))) }
 {
     match name {
@@ -80,7 +80,7 @@ fn plain_task<'a>(name: &str, inner: &ArgMatches<'a>) -> Option<Task<'a>>
 
 // The task of `show`.
 fn show_task<'a>(inner: &ArgMatches<'a>) -> Option<Task<'a>>
-    ensures { option_map words_of result
+    ensures { option_map task_words result
         ≡ named_words (codes "show") (show_words_in (rows_of (found_of inner.now))) }
 {
     let (file, path) = file_and_path(inner)?;
@@ -93,7 +93,7 @@ fn show_task<'a>(inner: &ArgMatches<'a>) -> Option<Task<'a>>
 
 // The task of any command on files but `init`, `grow`, `run` and `show`.
 fn file_task<'a>(name: &str, inner: &ArgMatches<'a>) -> Option<Task<'a>>
-    ensures { option_map words_of result
+    ensures { option_map task_words result
         ≡ named_words name.now (file_words_behind name.now (rows_of (found_of inner.now))) }
 {
     match name {
@@ -116,7 +116,7 @@ fn file_task<'a>(name: &str, inner: &ArgMatches<'a>) -> Option<Task<'a>>
 
 // The task of a command that looks at documents, makes sessions, carries a delta or edits.
 fn looking_task<'a>(name: &str, inner: &ArgMatches<'a>) -> Option<Task<'a>>
-    ensures { option_map words_of result
+    ensures { option_map task_words result
         ≡ named_words name.now (looking_words_behind name.now (rows_of (found_of inner.now))) }
 {
     match name {
@@ -138,7 +138,7 @@ fn looking_task<'a>(name: &str, inner: &ArgMatches<'a>) -> Option<Task<'a>>
 
 // The task of a command that makes sessions, follows a node, carries a delta, or edits the replica in a file.
 fn session_task<'a>(name: &str, inner: &ArgMatches<'a>) -> Option<Task<'a>>
-    ensures { option_map words_of result
+    ensures { option_map task_words result
         ≡ named_words name.now (session_words_behind name.now (rows_of (found_of inner.now))) }
 {
     match name {
@@ -165,7 +165,7 @@ fn session_task<'a>(name: &str, inner: &ArgMatches<'a>) -> Option<Task<'a>>
 
 // The task of `sync`.
 fn sync_task<'a>(inner: &ArgMatches<'a>) -> Option<Task<'a>>
-    ensures { option_map words_of result
+    ensures { option_map task_words result
         ≡ named_words (codes "sync") (sync_words_in (rows_of (found_of inner.now))) }
 {
     let (file, addr, timeout) = file_and_two(inner, "ADDR", "TIMEOUT")?;
@@ -179,7 +179,7 @@ fn sync_task<'a>(inner: &ArgMatches<'a>) -> Option<Task<'a>>
 
 // The task of `watch`.
 fn watch_task<'a>(inner: &ArgMatches<'a>) -> Option<Task<'a>>
-    ensures { option_map words_of result
+    ensures { option_map task_words result
         ≡ named_words (codes "watch") (watch_words_in (rows_of (found_of inner.now))) }
 {
     let node = word_under(inner, "NODE")?;
@@ -194,7 +194,7 @@ fn watch_task<'a>(inner: &ArgMatches<'a>) -> Option<Task<'a>>
 
 // The task of a command that carries a delta, or that edits the replica in a file.
 fn delta_task<'a>(name: &str, inner: &ArgMatches<'a>) -> Option<Task<'a>>
-    ensures { option_map words_of result
+    ensures { option_map task_words result
         ≡ named_words name.now (delta_words_behind name.now (rows_of (found_of inner.now))) }
 {
     match name {
@@ -228,7 +228,7 @@ fn delta_task<'a>(name: &str, inner: &ArgMatches<'a>) -> Option<Task<'a>>
 
 // The task of a command that edits the replica in a file.
 fn edit_task<'a>(name: &str, inner: &ArgMatches<'a>) -> Option<Task<'a>>
-    ensures { option_map words_of result
+    ensures { option_map task_words result
         ≡ named_words name.now (edit_words_behind name.now (rows_of (found_of inner.now))) }
 {
     match name {
@@ -269,7 +269,7 @@ fn entry_words<'a>(inner: &ArgMatches<'a>) -> Option<(&'a str, &'a str, ValueWor
 
 // The task of `set`.
 fn set_task<'a>(inner: &ArgMatches<'a>) -> Option<Task<'a>>
-    ensures { option_map words_of result
+    ensures { option_map task_words result
         ≡ named_words (codes "set") (changed_words_in (rows_of (found_of inner.now))) }
 {
     let (file, path, value) = entry_words(inner)?;
@@ -283,7 +283,7 @@ fn set_task<'a>(inner: &ArgMatches<'a>) -> Option<Task<'a>>
 
 // The task of `add`.
 fn add_task<'a>(inner: &ArgMatches<'a>) -> Option<Task<'a>>
-    ensures { option_map words_of result
+    ensures { option_map task_words result
         ≡ named_words (codes "add") (changed_words_in (rows_of (found_of inner.now))) }
 {
     let (file, path, value) = entry_words(inner)?;
@@ -297,7 +297,7 @@ fn add_task<'a>(inner: &ArgMatches<'a>) -> Option<Task<'a>>
 
 // The task of `clear`.
 fn clear_task<'a>(inner: &ArgMatches<'a>) -> Option<Task<'a>>
-    ensures { option_map words_of result
+    ensures { option_map task_words result
         ≡ named_words (codes "clear") (clear_words_in (rows_of (found_of inner.now))) }
 {
     let file = word_under(inner, "FILE")?;
@@ -308,7 +308,7 @@ fn clear_task<'a>(inner: &ArgMatches<'a>) -> Option<Task<'a>>
 
 // Either a path or the whole document.
 fn clear_of<'a>(file: &'a str, path: Option<&'a str>, all: bool) -> Option<Task<'a>>
-    ensures { option_map words_of result
+    ensures { option_map task_words result
         ≡ named_words (codes "clear") (clear_words file.now (option_map (λ p. p.now) path.entry) all) }
 {
     match (path, all) {
@@ -326,7 +326,7 @@ fn clear_of<'a>(file: &'a str, path: Option<&'a str>, all: bool) -> Option<Task<
 
 // The task of `get`.
 fn get_task<'a>(inner: &ArgMatches<'a>) -> Option<Task<'a>>
-    ensures { option_map words_of result
+    ensures { option_map task_words result
         ≡ named_words (codes "get") (get_words_in (rows_of (found_of inner.now))) }
 {
     let (file, path) = two_words(inner, "FILE", "PATH")?;
@@ -360,7 +360,7 @@ fn kind_of(raw: bool, register: bool, set: bool, counter: bool) -> Option<Option
 }
 
 fn init_task<'a>(alloc: Global, inner: &ArgMatches<'a>) -> Result<Option<Task<'a>>, AllocError>
-    ensures { IfOk result (λ task. option_map words_of task
+    ensures { IfOk result (λ task. option_map task_words task
         ≡ named_words (codes "init") (init_words_in (rows_of (found_of inner.now)))) }
 {
     let Some(file) = word_under(inner, "FILE") else {
@@ -385,7 +385,7 @@ fn init_from<'a>(
     names: Option<&[&'a str]>,
     from: &'a str,
 ) -> Option<Task<'a>>
-    ensures { option_map words_of result ≡ named_words (codes "init")
+    ensures { option_map task_words result ≡ named_words (codes "init")
         (init_words_by file.now own.now (option_map (λ w. w.now) more.entry)
         (option_map (λ ws. map (λ w. w.now) ws.now) names.entry) (Some from.now)) }
 {
@@ -406,7 +406,7 @@ fn init_named<'a>(
     own: Option<&'a str>,
     names: Option<&[&'a str]>,
 ) -> Result<Option<Task<'a>>, AllocError>
-    ensures { IfOk result (λ task. option_map words_of task ≡ named_words (codes "init")
+    ensures { IfOk result (λ task. option_map task_words task ≡ named_words (codes "init")
         (init_words_by file.now group.now (option_map (λ w. w.now) own.entry)
         (option_map (λ ws. map (λ w. w.now) ws.now) names.entry) None)) }
 {
@@ -429,7 +429,7 @@ fn init_named<'a>(
 }
 
 fn grow_task<'a>(alloc: Global, inner: &ArgMatches<'a>) -> Result<Option<Task<'a>>, AllocError>
-    ensures { IfOk result (λ task. option_map words_of task
+    ensures { IfOk result (λ task. option_map task_words task
         ≡ named_words (codes "grow") (grow_words_in (rows_of (found_of inner.now)))) }
 {
     let Some(file) = word_under(inner, "FILE") else {
@@ -443,7 +443,7 @@ fn grow_task<'a>(alloc: Global, inner: &ArgMatches<'a>) -> Result<Option<Task<'a
 }
 
 fn run_task<'a>(alloc: Global, inner: &ArgMatches<'a>) -> Result<Option<Task<'a>>, AllocError>
-    ensures { IfOk result (λ task. option_map words_of task
+    ensures { IfOk result (λ task. option_map task_words task
         ≡ named_words (codes "run") (run_words_in (rows_of (found_of inner.now)))) }
 {
     let Some((file, http, every)) = file_and_two(inner, "HTTP", "EVERY") else {

@@ -2,7 +2,7 @@
 ghost use Rattle.std.specs.Prelude.{◌≡◌, map, option_map, IfOk, Some, MatchResult};
 ghost use Rattle.clap.specs.Words.{FailsBy, Text, fault_of, kind_of, subcommand_of, subcommand_rows_of};
 ghost use Rattle.rds_words.specs.Commands.{edit_lines_words, node_app, join_words, sim_words};
-ghost use Rattle.rds_words.specs.Task.{EditsByLines, words_of, words_in};
+ghost use Rattle.rds_words.specs.Task.{EditsByLines, task_words, words_in};
 ghost use Rattle.rds_words.specs.Entered.{Names};
 
 use crate::builders::node_command;
@@ -319,7 +319,7 @@ pub enum EditWords<'a> {
 
 /// Reads the words, of which the first is the program's name.
 pub fn task_of<'a, S: AsStr>(alloc: Global, words: &'a [S]) -> Result<Option<Task<'a>>, Error>
-    ensures task { IfOk result (λ task. option_map words_of task
+    ensures task { IfOk result (λ task. option_map task_words task
         ≡ words_in (subcommand_of node_app (map S.text words.entry.now))) }
     ensures kinds { FailsBy (fault_of node_app (map S.text words.entry.now)) result }
     ensures join { Names (map S.text words.entry.now) join_words

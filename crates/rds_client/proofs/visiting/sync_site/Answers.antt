@@ -1,5 +1,5 @@
 use Rattle.std.proofs.Common.{◌∙◌, List, ℕ, subst}
-use Rattle.rds_client.specs.Visits.{IsBrought}
+use Rattle.rds_offline.specs.Letters.{IsBrought}
 use Rattle.rds_client.proofs.visiting.sync_site.Goals as goal
 
 pub returns-in-Ok-bring : goal.returns-in-Ok-bring

@@ -1,0 +1,66 @@
+//! How long who is at the other end of a connection is waited for.
+ghost use Rattle.std.specs.Prelude.{◌≤◌, ◌+◌};
+ghost use Rattle.rds_site.specs.declared.patience.TheConstants.{MOST_MORE, PATIENCE};
+
+use crate::schedule::after;
+use std::time::{Duration, Instant};
+
+/// Within so many seconds a byte of what is sent has to go, and of what is awaited enough has to come.
+pub const PATIENCE: u64 = 30;
+
+/// What the system has taken may still be on its way: so many bytes of it give a second more.
+const SLOWEST: u64 = 16_384;
+
+/// There are so many seconds more at most.
+pub const MOST_MORE: u64 = 270;
+
+/// Since when the other end lets wait, and how many bytes the system has taken for it since it was heard.
+#[derive(Clone, Copy, Debug)]
+pub struct Wait {
+    since: Instant,
+    taken: u64,
+}
+
+impl Wait {
+    /// From this instant on. Nothing was taken.
+    pub fn new(now: Instant) -> Wait {
+        Wait {
+            since: now,
+            taken: 0,
+        }
+    }
+
+    /// Since when.
+    pub fn since(&self) -> Instant {
+        self.since
+    }
+
+    /// From this instant on, with what was taken before.
+    pub fn renew(&mut self, now: Instant) {
+        self.since = now;
+    }
+
+    /// The system took so many bytes.
+    pub fn note_taken(&mut self, count: usize, now: Instant) {
+        self.since = now;
+        self.taken = self.taken.saturating_add(count as u64);
+    }
+
+    /// The other end was heard: it has got what was taken before.
+    pub fn note_heard(&mut self) {
+        self.taken = 0;
+    }
+
+    /// How many seconds it may let wait.
+    pub fn seconds(&self) -> u64
+        ensures least { PATIENCE ≤ result }
+        ensures most { result ≤ PATIENCE + MOST_MORE }
+    {
+        PATIENCE.saturating_add((self.taken / SLOWEST).min(MOST_MORE))
+    }
+
+    /// Until when it may.
+    pub fn until(&self) -> Instant {
+        after(self.since, Duration::from_secs(self.seconds()))
+    }
+}
