@@ -359,9 +359,11 @@ def refuses_edits(node):
     """A node whose file is older than what its replica has sent takes no edit, says so once, and does all else."""
     due = b'{"fault":10,"name":"OwnAhead","text":"the file is older than what its replica has sent"}'
     before = (node.folder / "a.rds").read_bytes()
-    for target, body in ("/edits", b'["set","k/n6",6]\n'), ("/edits", b""), ("/grow", b"d"):
-        answer = node.answer("POST", target, body)
-        want((answer.status, answer.body) == (409, due), f"a node that is behind answers {target} by {answer}")
+    line = b'["set","k/n6",6]\n'
+    edits = [("POST /edits", line), ("POST /edits", b""), ("POST /edits/k/n6", line), ("PUT /value/k/n6", b"6")]
+    for asked, body in [*edits, ("POST /grow", b"d")]:
+        answer = node.answer(*asked.split(), body)
+        want((answer.status, answer.body) == (409, due), f"a node that is behind answers {asked} by {answer}")
     want((node.folder / "a.rds").read_bytes() == before, "a node that is behind has changed its file")
     want(shows(node, 1) and not shows(node, 6), "a node that is behind doesn't show what it has")
     begin = "a.rds: is older than what its replica has sent, and edits are refused from here on: "

@@ -14,7 +14,7 @@ import time
 from plain_files import appended, change_text, file_text, read_file
 from plain_model import Replica, State, edited, grown, mark_of
 from plain_texts import tag_of
-from serving import HOST, LIMIT, NOBODY, TOKEN, UPGRADE, Node, Noted, killed, running, soon, want
+from serving import HOST, LIMIT, NOBODY, TOKEN, UPGRADE, Node, Noted, killed, listener, running, soon, want
 
 # A request, and below it the status, the kind of content and the body that are due. '|' ends a line of a body, and
 # '..' is anything. A line with four spaces before it goes on where the last one ended.
@@ -114,6 +114,8 @@ MAY_COME = """
 403 GET / | Host: example.org:PORT
 403 POST /edits | Host: example.org:PORT
 403 POST /grow | Host: example.org:PORT
+403 POST /edits/x | Host: example.org:PORT
+403 PUT /value/x | Host: example.org:PORT
 200 GET /doc | Origin: http://example.org
 200 GET /snapshot | Origin: http://example.org
 200 POST /edits | Origin: http://127.0.0.1:PORT
@@ -126,6 +128,10 @@ MAY_COME = """
 403 POST /take | Origin: http://127.0.0.1
 403 POST /grow | Origin: http://example.org
 403 POST /grow | Origin: null
+403 POST /edits/x | Origin: http://example.org
+403 PUT /value/x | Origin: http://example.org
+403 PUT /value/x | Origin: null
+400 PUT /value/x | Origin: http://127.0.0.1:PORT
 403 GET /live | Origin: http://example.org:PORT | UPGRADE
 """
 MAY_COME_WITH_TOKEN = """
@@ -138,6 +144,8 @@ MAY_COME_WITH_TOKEN = """
 401 POST /grow | Cookie: a=b
 401 GET /nothing | Cookie: a=b
 401 POST /edits | Cookie: a=b
+401 POST /edits/x | Cookie: a=b
+401 PUT /value/x | Cookie: a=b
 401 POST /edits | Cookie: rds_PORT=
 401 POST /edits | Cookie: rds_PORT=TOKENx
 401 POST /edits | Cookie: rds=TOKEN
@@ -152,10 +160,13 @@ MAY_COME_WITH_TOKEN = """
 403 POST /edits | Authorization: Bearer TOKEN | Origin: http://example.org
 403 POST /login | Origin: http://example.org
 403 POST /grow | Authorization: Bearer TOKEN | Origin: http://example.org
+403 PUT /value/x | Authorization: Bearer TOKEN | Origin: http://example.org
 200 POST /edits | Authorization: Bearer TOKEN
 200 POST /edits | Authorization: bearer TOKEN
 200 POST /edits | Authorization: BEARER TOKEN
 400 POST /grow | Authorization: Bearer TOKEN
+200 POST /edits/x | Authorization: Bearer TOKEN
+400 PUT /value/x | Authorization: Bearer TOKEN
 200 GET /snapshot | Authorization: Bearer TOKEN
 200 POST /edits | Cookie: a=b; rds_PORT=TOKEN; c=d
 200 POST /edits | Cookie: rds_1PORT=other; rds_PORT=TOKEN
@@ -195,12 +206,16 @@ def judge_comers(node, table):
         row = row.replace("PORT", f"{node.port}").replace("TOKEN", TOKEN).replace("UPGRADE", " | ".join(UPGRADE))
         first, *lines = row.split(" | ")
         status, method, target = first.split()
-        answer = node.answer(method, target, b"" if method == "POST" else None, *lines)
+        answer = node.answer(method, target, b"" if method in ("POST", "PUT") else None, *lines)
         asks = answer.headers.get("www-authenticate")
         with noted:
             want(answer.status == int(status), f"{row} is answered {answer}")
             want(answer.status != 401 or asks == "Bearer", f"{row} is answered WWW-Authenticate: {asks}")
     noted.end()
+
+
+# The lines of a family of numbers: what it is, in a sentence, and its type.
+HELPED = r"# HELP (\w+) [A-Z].*\.\n# TYPE \1 "
 
 
 def judge_heads(node):
@@ -223,6 +238,9 @@ def judge_heads(node):
     due |= {"rds_peers": 0, "rds_peers_met": 0, "rds_caller_forks_total": 0, "rds_behind": 0}
     for name, number in due.items():
         want(node.count(name) == number, f"{name} is {node.count(name)}, where {number} is due")
+    text = node.answer("GET", "/metrics").body.decode()
+    families, helped = (re.findall(rf"^{line}", text, re.M) for line in (r"# TYPE (\w+) (?:counter|gauge)$", HELPED))
+    want(len(families) == 17 and families == helped, f"the metrics are {families}, and those that tell what they are {helped}")
 
 
 def judge_pipes(node):
@@ -346,38 +364,43 @@ LOOKS = ["/doc", "/doc/apples", "/here", "/here/apples", "/value/apples", "/valu
 REFUSED = {"/doc/a//b": 400, "/here/%FF": 400, "/value": 400, "/nothing": 404}
 
 
+def tag_of_text(text):
+    """The tag of what stands at a place, by the text that is told of it."""
+    return f'"{hashlib.sha256(text).hexdigest()[:32]}"'
+
+
 def judge_tags(node):
     """What a client that has something already is answered: 304 where it is what stands there."""
     noted = Noted()
     with node.link() as link:
         asked = lambda *request: link.answer(node.text(*request), request[0] == "HEAD")
-        tag = f'"{node.status()["mark"]}"'
-        old, rows = f'"{"0" * 32}"', []
+        mark = f'"{node.status()["mark"]}"'
+        old = f'"{"0" * 32}"'
         for target in LOOKS:
-            rows += [("GET", target, None, 200), ("HEAD", target, None, 200), ("GET", target, old, 200)]
-            rows += [("GET", target, tag[1:-1], 200), ("GET", target, tag, 304), ("HEAD", target, tag, 304)]
-            others = "*", f"W/{tag}", f"{old}, {tag}", f"{old},{tag} , {old}"
-            rows += [("GET", target, shown, 304) for shown in others]
-        for method, target, shown, status in rows:
-            answer = asked(method, target, None, *([f"If-None-Match: {shown}"] if shown else []))
-            found = answer.status, answer.headers.get("etag"), answer.headers.get("cache-control")
-            with noted:
-                want(found == (status, tag, "no-cache"), f"{method} {target} with {shown} is answered {answer}")
-                want(not answer.body or status == 200, f"{method} {target} with {shown} is answered {answer}")
+            tag = tag_of_text(asked("GET", target).body) if target.startswith("/value/") else mark
+            rows = [("GET", None, 200), ("HEAD", None, 200), ("GET", old, 200), ("GET", tag[1:-1], 200)]
+            rows += [("GET", tag, 304), ("HEAD", tag, 304)]
+            rows += [("GET", shown, 304) for shown in ("*", f"W/{tag}", f"{old}, {tag}", f"{old},{tag} , {old}")]
+            for method, shown, status in rows:
+                answer = asked(method, target, None, *([f"If-None-Match: {shown}"] if shown else []))
+                found = answer.status, answer.headers.get("etag"), answer.headers.get("cache-control")
+                with noted:
+                    want(found == (status, tag, "no-cache"), f"{method} {target} with {shown} is answered {answer}")
+                    want(not answer.body or status == 200, f"{method} {target} with {shown} is answered {answer}")
         for target, status in REFUSED.items():
             answer = asked("GET", target, None, "If-None-Match: *")
             with noted:
                 want(answer.status == status, f"GET {target} with * is answered {answer}")
         for target in "/status", "/metrics", "/snapshot", "/":
-            answer = asked("GET", target, None, f"If-None-Match: {tag}")
+            answer = asked("GET", target, None, f"If-None-Match: {mark}")
             with noted:
                 want(answer.status == 200, f"GET {target} with a tag is answered {answer}")
         answer = asked("POST", "/edits", b'["set","tagged",1]\n', f"If-None-Match: {old}")
         with noted:
             want(answer.status == 200 and b"dot" in answer.body, f"an edit with another tag is answered {answer}")
-        answer = asked("GET", "/doc", None, f"If-None-Match: {tag}")
+        answer = asked("GET", "/doc", None, f"If-None-Match: {mark}")
         with noted:
-            want(answer.status == 200 and answer.headers["etag"] != tag, f"after an edit a tag is answered {answer}")
+            want(answer.status == 200 and answer.headers["etag"] != mark, f"after an edit a tag is answered {answer}")
     noted.end()
 
 
@@ -418,6 +441,102 @@ def judge_matches(node):
             with noted:
                 want(answer.status == due, f"{method} {target} if {old} is answered {answer}")
     noted.end()
+
+
+# Requests for a place: the method, the target, a body, a condition, and the status, the kind of content and the body
+# that are due. NOW is the tag of what stands there, and BEFORE that of what stood there before the last one was done.
+UNMET = '412 json {"status":412,"text":"what stands there doesn\'t meet the condition"}'
+DOT, KILLED = ('200 x-ndjson {"dot":["a",..],"killed":%d}|' % number for number in (0, 1))
+NO_DOT = '200 x-ndjson {"dot":null,"killed":0}|'
+BAD_LINE = '400 x-ndjson {"fault":25,"name":"BadLine","line":1}|'
+BAD_SCALAR = '400 x-ndjson {"fault":5,"name":"BadScalar","line":1}|'
+BAD_KEY, BAD_PATH = ('400 json {"fault":%d,"name":"%s","text":".."}' % of for of in ((3, "BadKey"), (4, "BadPath")))
+NOT_ALLOWED = '405 json {"status":405,"text":".."}'
+NO_JSON, NO_SCALAR = ["", "oops", "1 2", '1],["x"', '1\n["clear",""]', "'x'"], ["[1]", "{}", "1.0", "-0", f"{1 << 63}"]
+ANN, CREATED = "/edits/u/ann/mail", '["set","u/ann/mail","a@b.c"]'
+PLACES = [
+    ("POST", ANN, CREATED, "If-Match: *", UNMET), ("POST", ANN, CREATED, "If-None-Match: *", DOT),
+    ("POST", ANN, CREATED, "If-None-Match: *", UNMET), ("POST", ANN, CREATED, "If-None-Match: W/NOW", UNMET),
+    ("POST", ANN, CREATED, "If-Match: W/NOW", UNMET), ("POST", ANN, "oops", "If-Match: BEFORE", UNMET),
+    ("POST", ANN, "oops", "If-Match: NOW", BAD_LINE), ("POST", ANN, "oops", "", BAD_LINE),
+    ("POST", ANN, '["set","u/ann/mail","d@e.f"]', 'If-Match: "x", NOW', KILLED),
+    ("POST", ANN, '["set","u/ann/mail","g@h.i"]', "If-Match: BEFORE", UNMET),
+    ("POST", ANN, '["set","u/ann/mail","g@h.i"]', "If-None-Match: BEFORE", KILLED),
+    ("POST", "/edits/u%2Fann/m%61il", '["set","u/bob/mail","b@b.c"]', "If-Match: NOW", DOT),
+    ("POST", "/edits/u/ann", '["inc","n",1]', "If-Match: *", UNMET),
+    ("POST", "/edits/u/ann", '["inc","n",1]', "If-None-Match: *", NO_DOT),
+    ("POST", "/edits/u/ann", "", "If-Match: NOW", "200 x-ndjson "),
+    ("POST", "/edits/left", '["inc","left",3]', "If-None-Match: *", NO_DOT),
+    ("POST", "/edits/left", '["dec","left",3]', "If-Match: NOW", NO_DOT),
+    ("POST", "/edits/left", '["dec","left",3]', "If-Match: BEFORE", UNMET),
+    ("POST", "/edits/left", '["inc","left",3]', "If-None-Match: *", UNMET),
+    ("POST", "/edits/left", '["inc","left",3]', "If-Match: *", NO_DOT),
+    ("POST", "/edits/%FC/x", CREATED, "If-None-Match: *", BAD_KEY), ("POST", "/edits/a//b", "", "", BAD_KEY),
+    ("POST", "/edits/", CREATED, "If-Match: *", BAD_PATH), ("POST", "/edits/1/2/3/4/5/6/7/8/9", "", "", BAD_PATH),
+    ("GET", "/edits/u", None, "", NOT_ALLOWED), ("PUT", "/edits/u", "1", "", NOT_ALLOWED),
+    ("PUT", "/value/u/b%C3%BCb/%2520", '"x"', "If-Match: *", UNMET),
+    ("PUT", "/value/u/b%C3%BCb/%2520", '"x"', "If-None-Match: *", DOT),
+    ("PUT", "/value/u/b%C3%BCb/%2520", '"y"', "If-None-Match: *", UNMET),
+    ("PUT", "/value/u/b%C3%BCb/%2520", " null\n", "If-Match: NOW", KILLED),
+    ("PUT", "/value/u/b%C3%BCb/%2520", "true", "If-Match: BEFORE", UNMET),
+    ("PUT", "/value/u/b%C3%BCb/%2520", "-9223372036854775808", "", KILLED),
+    ("PUT", "/value/u/b%C3%BCb/%2520", "oops", "If-Match: BEFORE", UNMET),
+    *(("PUT", "/value/u/ann/mail", body, "", BAD_LINE) for body in NO_JSON),
+    *(("PUT", "/value/u/ann/mail", body, "", BAD_SCALAR) for body in NO_SCALAR),
+    ("PUT", "/value/u/ann/mail", '"%s"' % ("x" * 1_024), "", KILLED),
+    ("PUT", "/value/u/ann/mail", '"%s"' % ("x" * 1_025), "", BAD_SCALAR),
+    ("PUT", "/value/u/ann/mail", "1" + " " * 65_535, "", KILLED),
+    ("PUT", "/value/u/ann/mail", "1" + " " * 65_536, "", BAD_LINE),
+    ("PUT", "/value", "1", "", BAD_PATH), ("PUT", "/value/", "1", "", BAD_PATH),
+    ("PUT", "/value/%FF", "1", "", BAD_KEY),
+    ("PUT", "/doc/u", "1", "", NOT_ALLOWED), ("POST", "/value/u", "1", "", NOT_ALLOWED),
+    ("DELETE", "/value/u", None, "", NOT_ALLOWED), ("PUT", "/edits", "1", "", NOT_ALLOWED),
+]
+ALLOWED = {"edits": "POST", "value": "GET, HEAD, PUT", "doc": "GET, HEAD"}
+
+
+def judge_places(node):
+    """Edits and values that are wanted only where what stands at a place is as it was seen, or isn't: else 412."""
+    noted, before = Noted(), {}
+    with node.link() as link:
+        asked = lambda *request: link.answer(node.text(*request))
+        mark = lambda: asked("GET", "/here").headers["etag"]
+        for method, target, body, condition, due in PLACES:
+            resource, _, place = target[1:].partition("/")
+            now, was = tag_of_text(asked("GET", f"/value/{place}").body), mark()
+            line = condition.replace("NOW", now).replace("BEFORE", before.get(place, '"x"'))
+            answer = asked(method, target, body if body is None else body.encode(), *([line] if line else []))
+            with noted:
+                what = f"{method} {target} {body and body[:40]} {line}"
+                judge(what, answer, due)
+                want(answer.status == 200 or mark() == was, f"after {what}, which is refused, the document is another")
+                allowed = ALLOWED[resource] if answer.status == 405 else None
+                want(answer.headers.get("allow") == allowed, f"{what} is answered {answer}, where {allowed} is due")
+            if answer.status == 200:
+                before[place] = now
+    with noted:
+        judge_put(node)
+    noted.end()
+
+
+def judge_put(node):
+    """A value that is put counts as an edit, and is told to who listens: beside a set and a counter, which stay."""
+    node.answer("POST", "/edits", b'["add","put","x"]\n["inc","put",2]')
+    counts = [node.count(name) for name in ("rds_edits_total", "rds_edits_refused_total")]
+    heard = listener(node)
+    for body in b"7", b"oops", b"8":
+        node.answer("PUT", "/value/put", body)
+    for _ in range(2):
+        news = json.loads(heard.frame(LIMIT)[1])
+        want(news["paths"] == ["put"], f"who listens is told of a value that is put by {news}")
+    heard.socket.close()
+    told = [node.count(name) - count for name, count in zip(("rds_edits_total", "rds_edits_refused_total"), counts)]
+    want(told == [2, 1], f"two values that are put and a refused one are counted as {told}")
+    due = b'{"counter":2,"reg":[8],"set":["x"]}'
+    for method, text in ("GET", due), ("HEAD", b""):
+        answer = node.answer(method, "/value/put")
+        is_due = (answer.body, answer.headers["etag"]) == (text, tag_of_text(due))
+        want(is_due, f"{method} of a value that was put is answered {answer}")
 
 
 # Names that a node of the group a, b is given, one after the other, and what each is due to be answered.
@@ -663,7 +782,7 @@ def try_requests(asked, folder):
     noted, node = Noted(), Node(asked.program, folder)
     with running(node):
         comers = lambda node: judge_comers(node, MAY_COME)
-        tags = judge_tags, judge_matches, judge_ask_tags
+        tags = judge_tags, judge_matches, judge_places, judge_ask_tags
         texts = judge_pieces, judge_lines, judge_texts, judge_tagged
         for part in judge_table, judge_heads, judge_pipes, *texts, *tags, comers, stop_and_go_on:
             with noted:
@@ -686,5 +805,5 @@ def try_requests(asked, folder):
         try_log(asked, folder / "log")
     noted.end()
     count = REQUESTS.count("\n  ") + sum(table.strip().count("\n") + 1 for table in (MAY_COME, MAY_COME_WITH_TOKEN))
-    count += len(NAMES)
+    count += len(NAMES) + len(PLACES)
     return f"{count} requests by hand, 900 at once, tags, a log, 256 names, and what two replicas send each other"

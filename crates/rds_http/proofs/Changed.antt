@@ -1,7 +1,9 @@
 -- What a request changed, and how that is noted.
-use Rattle.std.proofs.Common.{◌≡◌, ◌≢◌, ◌<◌, ◌≤◌, ◌||◌, ◌∙◌, ℕ, Bool, true, false, not, List, None, Some, Result, Ok, Err, OnOk, refl, sym, ap, subst, inl, inr}
+use Rattle.std.proofs.Common.{◌≡◌, ◌≢◌, ◌⊎◌, ◌<◌, ◌≤◌, ◌||◌, ◌∙◌, ℕ, Bool, true, false, not, List, None, Some, Result, Ok, Err, OnOk, refl, sym, ap, subst, inl, inr}
 use Rattle.std.specs.Str.{is_utf8}
 use Rattle.http.specs.declared.request.Request.{Request}
+use Rattle.http_header.specs.FieldValue.{FieldValue}
+use Rattle.http_header.specs.HeaderMap.{Entries}
 use Rattle.http_server.specs.declared.response.Response.{Response}
 use Rattle.rds_names.specs.declared.fault.Fault.{Fault}
 use Rattle.rds_names.specs.declared.fault.Fault.TheVariants.{BadName, Cut, Memory, TooLong}
@@ -9,14 +11,17 @@ use Rattle.rds_state.specs.Fits.{ReplicaValue}
 use Rattle.rds_store.specs.Files.{OpenValue}
 use Rattle.rds_store.specs.Meetings.{RefusesTaking}
 use Rattle.rds_http.specs.Access.{denial}
-use Rattle.rds_http.specs.Answers.{Answers, AnswersBy, Does, DoesPost, KeepsRest, asked_in, may_change, place_in}
+use Rattle.rds_http.specs.Answers.{Answers, AnswersBy, Does, DoesChange, DoesChangeAt, DoesChangeIf, DoesPost, KeepsRest, asked_in, may_change, place_in}
 use Rattle.rds_http.specs.Changes.{AnswersEdits, AnswersQuestion, AnswersTake, AnswersTexts, RefusesNewName}
 use Rattle.rds_http.specs.Handshakes.{headers_of}
 use Rattle.rds_http.specs.Lines.{line_count}
-use Rattle.rds_http.specs.Refusals.{IsDenied, TellsFault}
+use Rattle.rds_http.specs.Looks.{IsNoPlace, IsValueAt}
+use Rattle.rds_http.specs.Refusals.{IsDenied, IsUnmetAt, TellsFault}
 use Rattle.rds_http.specs.Site.{SiteValue}
+use Rattle.rds_http.specs.Tags.{is_met, standing}
 use Rattle.rds_http.specs.declared.access.Denied.{Denied}
 use Rattle.rds_http.specs.declared.lines.TheConstants.{MOST_LINES}
+use Rattle.rds_http.specs.declared.routes.Change.{Change}
 use Rattle.rds_http.specs.declared.routes.Post.{Post}
 use Rattle.rds_http.specs.declared.routes.Post.TheVariants.{Answer, Take}
 
@@ -77,6 +82,28 @@ pub take_refused : (body : List ℕ) (before : ReplicaValue) (response : Respons
     → TellsFault fault response → AnswersTake body before before response
 take_refused body before response fault cut told =
     inr (record { same = refl; told = subst (λ f. TellsFault f response) cut told })
+
+-- ---- what is sent for a place
+
+-- the place is none, or memory ran out
+pub change_refused : (change : Change) (place : List ℕ) (headers : Entries FieldValue) (body : List ℕ) (old : SiteValue) (response : Response) (fault : Fault)
+    → (fault ≡ Memory) ⊎ IsNoPlace place fault → TellsFault fault response
+    → DoesChangeAt change place headers body old response old
+change_refused change place headers body old response fault why told = inr (refl, (fault, why, told))
+
+-- what stands there doesn't meet the condition
+pub change_unmet : (change : Change) (place : List ℕ) (headers : Entries FieldValue) (body : List ℕ) (old : SiteValue) (response : Response) (text : List ℕ)
+    → IsValueAt old.document.state place text → is_met headers (standing text) ≡ false → IsUnmetAt response
+    → DoesChangeAt change place headers body old response old
+change_unmet change place headers body old response text is unmet told =
+    inl (text, is, subst (λ met. DoesChangeIf met change place body old response old) (sym unmet) (refl, told))
+
+-- it does
+pub change_met : (change : Change) (place : List ℕ) (headers : Entries FieldValue) (body : List ℕ) (old : SiteValue) (response : Response) (new : SiteValue) (text : List ℕ)
+    → IsValueAt old.document.state place text → is_met headers (standing text) ≡ true
+    → DoesChange change place body old response new → DoesChangeAt change place headers body old response new
+change_met change place headers body old response new text is met done =
+    inl (text, is, subst (λ m. DoesChangeIf m change place body old response new) (sym met) done)
 
 -- ---- the whole answer
 

@@ -1,9 +1,9 @@
 -- The lines that answer a body: how many, how long, and what they say was done.
-use Rattle.std.proofs.Common.{◌≡◌, ◌≢◌, ◌∙◌, ap, ℕ, suc, ◌+◌, ◌<◌, ◌≤◌, ◌==◌, ◌&&◌, ◌^◌, Bool, true, false, cond, List, [], ◌∷◌, ◌++◌, length, Result, Ok, Err, IsTrue, refl, inl, inr, arith, lit≤, lit<, append_assoc, decimal}
+use Rattle.std.proofs.Common.{◌≡◌, ◌≢◌, ◌⊎◌, ◌∙◌, ap, ℕ, suc, ◌+◌, ◌<◌, ◌≤◌, ◌==◌, ◌&&◌, ◌^◌, Bool, true, false, cond, List, [], ◌∷◌, ◌++◌, length, Result, Ok, Err, IsTrue, refl, inl, inr, arith, lit≤, lit<, append_assoc, decimal}
 use Rattle.std.specs.List.{count_by, list_all}
 use Rattle.std.proofs.lemmas.Fmt.{length-decimal-le_wide}
 use Rattle.std.proofs.lemmas.List.Sums.{sum_by-cons}
-use Rattle.rds_lines.specs.Editing.{EditsLines, EditsLinesBehind, EditsNext, MeetsCommand, MeetsEdit, edit_of_bytes}
+use Rattle.rds_lines.specs.Editing.{EditsLines, EditsLinesBehind, EditsNext, IsLineRefused, MeetsCommand, MeetsEdit, edit_of_bytes}
 use Rattle.rds_lines.specs.Lines.{is_empty_line, lines_in, line_with_byte}
 use Rattle.rds_names.specs.Fault.{name_of}
 use Rattle.rds_names.specs.Name.{is_name}
@@ -17,6 +17,7 @@ use Rattle.rds_output.specs.Reply.{is_refusal}
 use Rattle.rds_output.specs.declared.reply.Reply.{Reply}
 use Rattle.rds_state.specs.Fits.{ReplicaValue}
 use Rattle.rds_state.specs.declared.command.Command.{Command}
+use Rattle.rds_http.specs.Changes.{MeetsPut, put_command}
 use Rattle.rds_http.specs.Lines.{is_short, line_status, lines_status}
 
 -- ---- how many
@@ -55,13 +56,27 @@ met_command line (Err fault) before after answer refused = record {
   refused = λ _. refused.1;
 }
 
-met_edit : (line : ℕ) (bytes : List ℕ) (before after : ReplicaValue) (answer : Reply)
-    → MeetsEdit line bytes before answer after → IsAnswer before after answer
-met_edit line bytes before after answer (inl refused) = record {
+met_if_room : (line : ℕ) (asked : Result Command Fault) (before after : ReplicaValue) (answer : Reply)
+    → IsLineRefused line Memory before answer after ⊎ MeetsCommand line asked before answer after
+    → IsAnswer before after answer
+met_if_room line asked before after answer (inl refused) = record {
   short = rw refused.0 refl;
   refused = λ _. refused.1;
 }
-met_edit line bytes before after answer (inr met) = met_command line (edit_of_bytes bytes) before after answer met
+met_if_room line asked before after answer (inr met) = met_command line asked before after answer met
+
+met_edit : (line : ℕ) (bytes : List ℕ) (before after : ReplicaValue) (answer : Reply)
+    → MeetsEdit line bytes before answer after → IsAnswer before after answer
+met_edit line bytes before after answer met = met_if_room line (edit_of_bytes bytes) before after answer met
+
+-- the same of a register that is put
+pub met_put : (place body : List ℕ) (before after : ReplicaValue) (answer : Reply)
+    → MeetsPut place body before answer after → IsAnswer before after answer
+met_put place body before after answer met = met_if_room 1 (put_command place body) before after answer met
+
+-- a lone answer that is short
+pub one_short : (answer : Reply) → is_short answer ≡ true → list_all is_short (answer ∷ []) ≡ true
+one_short answer short = ap (λ s. s && true) short
 
 -- all are short, there are at most so many, and where all are refusals, nothing was done
 pub record AreAnswers (before after : ReplicaValue) (answers : List Reply) (most : ℕ) : Type 0 where
@@ -119,6 +134,14 @@ pub all_refused_by : (replies passed : List Reply) (status : ℕ) → passed ≡
     → status ≢ 200 → list_all is_refusal replies ≡ true
 all_refused_by replies passed status same is other =
     all_refused replies (λ ok. other (is ∙ ap lines_status same ∙ ok))
+
+-- a lone one that tells of a refusal
+pub one_refused : (answer : Reply) (status : ℕ) → status ≡ lines_status (answer ∷ []) → status ≢ 200 → is_refusal answer ≡ true
+one_refused answer status is other = of_and (is_refusal answer) (all_refused (answer ∷ []) (λ ok. other (is ∙ ok)))
+  where
+    of_and : (b : Bool) → (b && true) ≡ true → b ≡ true
+    of_and true both = refl
+    of_and false both = absurd (cc)
 
 -- ---- how long
 

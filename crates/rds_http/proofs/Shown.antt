@@ -1,41 +1,21 @@
 -- What is shown of a document, or known, and its tag.
-use Rattle.std.proofs.Common.{◌≡◌, ◌∙◌, ℕ, Bool, true, false, List, [], ◌∷◌, ◌++◌, Option, None, Result, Ok, Err, IfOk, String, codes, refl, sym, ap, subst, inl, append_assoc}
-use Rattle.std.specs.Global.{Global, Vec}
+use Rattle.std.proofs.Common.{◌≡◌, ◌∙◌, ℕ, false, List, [], ◌∷◌, ◌++◌, Ok, codes, sym, ap, subst, inl, append_assoc}
+use Rattle.std.specs.Global.{Vec}
 use Rattle.http1.specs.Fields.{Header}
 use Rattle.http_header.specs.FieldValue.{FieldValue}
 use Rattle.http_header.specs.HeaderMap.{Entries}
 use Rattle.http_server.specs.Response.{IsResponse}
 use Rattle.http_server.specs.declared.response.Response.{Response}
 use Rattle.rds_fields.specs.Tags.{tag_text}
-use Rattle.rds_names.specs.Path.{path_of}
-use Rattle.rds_names.specs.declared.fault.Fault.{Fault}
 use Rattle.rds_questions.specs.Tags.{IsTagOf}
 use Rattle.rds_questions.specs.declared.tags.Tag.{Tag}
 use Rattle.rds_state.specs.Fits.{ReplicaValue}
-use Rattle.rds_state.specs.Value.{StateValue}
 use Rattle.rds_store.specs.Meetings.{MayAsk}
-use Rattle.rds_http.specs.Looks.{AnswersLook, IsToldOf, IsValueAt, ShowsQuestion, ShowsSnapshot, TellsQuestion, own_field, path_in}
+use Rattle.rds_http.specs.Looks.{AnswersLook, ShowsQuestion, ShowsSnapshot, TellsQuestion, own_field}
 use Rattle.rds_http.specs.Replies.{tag_fields, type_field}
-use Rattle.rds_http.specs.Tags.{is_known}
+use Rattle.rds_http.specs.Tags.{always, is_known}
 use Rattle.rds_http.specs.declared.routes.Look.{Look}
 use Rattle.rds_http.specs.declared.routes.Look.TheVariants.{Snapshot}
-
--- what is known isn't told
-nothing_told : (known : Bool) (text : List ℕ) (told : Option (String Global)) → known ≡ true → told ≡ None → IsToldOf known text told
-nothing_told true text told is none = none
-nothing_told false text told is none = absurd (cc)
-
--- what stands at a path below the root is known
-pub known_value : (state : StateValue) (place path : List ℕ) (known : Bool) (result : Result (Option (String Global)) Fault)
-    → known ≡ true → path_in place ≡ Ok path
-    → IfOk result (λ told. (told ≡ None) × ((above : List (List ℕ)) × (key : List ℕ) × (path_of path ≡ Ok (above ++ key ∷ []))))
-    → IfOk result (λ told. (text : List ℕ) × IsValueAt state place text × IsToldOf known text told)
-known_value state place path known (Ok told) is in_place ok = (
-  _,
-  (path, in_place, record { above = ok.1.0; key = ok.1.1; place = ok.1.2; told = refl }),
-  nothing_told known _ told is ok.0,
-)
-known_value state place path known (Err fault) is in_place ok = ok
 
 -- two fields behind others
 pub two_more : (old first after : List Header) (one : Header) (name tag value : List ℕ) → first ≡ old ++ one ∷ [] → value ≡ tag
@@ -47,7 +27,7 @@ two_more old first after one name tag value first_is same after_is =
 
 -- a question that isn't known is told
 pub question_told : (headers : Entries FieldValue) (held : ReplicaValue) (tag : Tag) (text : List ℕ) (bytes : Vec ℕ) (before : List Header) (response : Response)
-    → IsTagOf held tag → text ≡ tag_text tag → is_known headers text ≡ false → MayAsk held (Ok bytes) → before ≡ own_field held ∷ []
+    → IsTagOf held tag → text ≡ tag_text tag → is_known headers (always text) ≡ false → MayAsk held (Ok bytes) → before ≡ own_field held ∷ []
     → IsResponse 200 (before ++ (type_field (codes "application/octet-stream") ∷ tag_fields text)) bytes.items response
     → ShowsQuestion headers held response
 question_told headers held tag text bytes before response is text_is unknown asks before_is told =
@@ -57,7 +37,7 @@ question_told headers held tag text bytes before response is text_is unknown ask
     let tagged : IsResponse 200 (own_field held ∷ kind ∷ tag_fields (tag_text tag)) bytes.items response =
     subst (λ t. IsResponse 200 (own_field held ∷ kind ∷ tag_fields t) bytes.items response) text_is behind in
     let due : TellsQuestion false (tag_text tag) held response = (bytes, asks, tagged) in
-    inl (tag, is, subst (λ k. TellsQuestion k (tag_text tag) held response) (sym (ap (is_known headers) (sym text_is) ∙ unknown)) due)
+    inl (tag, is, subst (λ k. TellsQuestion k (tag_text tag) held response) (sym (ap (λ t. is_known headers (always t)) (sym text_is) ∙ unknown)) due)
 
 -- the snapshot of the document is
 pub snapshot_shown : (look : Look) (place : List ℕ) (headers : Entries FieldValue) (before document : ReplicaValue) (response : Response)

@@ -71,6 +71,7 @@ are_own_origins headers = list_all (is_own_origin (host_in headers)) (values_in 
 -- what pages of other sites may not ask for
 abbrev pub is_watched : Asked → Bool
 is_watched (Ask.Post post) = true
+is_watched (Ask.Change change) = true
 is_watched Ask.Live = true
 is_watched _ = false
 

@@ -9,16 +9,19 @@ use Rattle.http_uri.specs.Uri.{uri_path}
 use Rattle.rds_state.specs.Value.{StateValue}
 use Rattle.rds_http.specs.Access.{denial}
 use Rattle.rds_http.specs.Changes.{AnswersEdits, AnswersGrowth, AnswersPull, AnswersPush, AnswersQuestion, AnswersTake}
+use Rattle.rds_http.specs.Changes.{AnswersPut}
 use Rattle.rds_http.specs.Handshakes.{AnswersHandshake, headers_of}
 use Rattle.rds_http.specs.Login.{AnswersLogin}
-use Rattle.rds_http.specs.Looks.{AnswersLook}
-use Rattle.rds_http.specs.Refusals.{IsDenied, IsNotAllowed, IsUnknown, IsUnmet}
+use Rattle.rds_http.specs.Looks.{AnswersLook, IsValueAt, TellsNoPlace}
+use Rattle.rds_http.specs.Refusals.{IsDenied, IsNotAllowed, IsUnknown, IsUnmet, IsUnmetAt}
 use Rattle.rds_http.specs.Routes.{asked_of, place_of}
 use Rattle.rds_http.specs.Site.{SiteValue}
-use Rattle.rds_http.specs.Tags.{is_met, state_tag}
+use Rattle.rds_http.specs.Tags.{always, is_met, standing, state_tag}
 use Rattle.rds_http.specs.declared.access.Denied.{Denied}
 use Rattle.rds_http.specs.declared.routes.Asked.{Asked}
 use Rattle.rds_http.specs.declared.routes.Asked.TheVariants as Ask
+use Rattle.rds_http.specs.declared.routes.Change.{Change}
+use Rattle.rds_http.specs.declared.routes.Change.TheVariants as Changed
 use Rattle.rds_http.specs.declared.routes.Post.{Post}
 use Rattle.rds_http.specs.declared.routes.Post.TheVariants.{Edits, Grow, Answer, Take, Push, Pull, Login}
 
@@ -41,6 +44,7 @@ is_changing Login = false
 
 abbrev pub may_change : Asked → Bool
 may_change (Ask.Post post) = is_changing post
+may_change (Ask.Change change) = true
 may_change _ = false
 
 -- what is kept stays, and so does all but the document
@@ -73,12 +77,29 @@ is_conditional Login = false
 
 -- the request names tags that the document has to have, or not, and it doesn't go with them
 abbrev pub is_unmet : Post → Entries FieldValue → StateValue → Bool
-is_unmet post headers state = is_conditional post && not (is_met headers (state_tag state))
+is_unmet post headers state = is_conditional post && not (is_met headers (always (state_tag state)))
 
 -- then that is told, and nothing is done
 abbrev pub DoesPostUnless : Bool → Post → List ℕ → SiteValue → Response → SiteValue → Type 0
 DoesPostUnless true post body old response new = (new ≡ old) × IsUnmet response
 DoesPostUnless false post body old response new = DoesPost post body old response new
+
+-- what a body that is sent for a place is answered, and what it makes of the document
+abbrev pub DoesChange : Change → List ℕ → List ℕ → SiteValue → Response → SiteValue → Type 0
+DoesChange Changed.Edits place body old response new = DoesPost Edits body old response new
+DoesChange Changed.Set place body old response new = AnswersPut place body old.document new.document response
+
+-- that is done where what stands there meets the conditions of the request. Else that is told, and nothing is done
+abbrev pub DoesChangeIf : Bool → Change → List ℕ → List ℕ → SiteValue → Response → SiteValue → Type 0
+DoesChangeIf true change place body old response new = DoesChange change place body old response new
+DoesChangeIf false change place body old response new = (new ≡ old) × IsUnmetAt response
+
+-- the same by the text that is told of the place, unless it is none, or memory ran out: then nothing is done
+abbrev pub DoesChangeAt : Change → List ℕ → Entries FieldValue → List ℕ → SiteValue → Response → SiteValue → Type 0
+DoesChangeAt change place headers body old response new =
+    ((text : List ℕ) × IsValueAt old.document.state place text
+    × DoesChangeIf (is_met headers (standing text)) change place body old response new)
+    ⊎ ((new ≡ old) × TellsNoPlace place response)
 
 -- what a request that is let in is answered, by what it asks for and the place that it names
 abbrev pub Does : Asked → List ℕ → SiteValue → Request (List ℕ) → Response → SiteValue → Type 0
@@ -86,6 +107,8 @@ Does (Ask.Look look) place old request response new =
     AnswersLook look old.document place (headers_of request) response
 Does (Ask.Post post) place old request response new =
     DoesPostUnless (is_unmet post (headers_of request) old.document.state) post (body_of request) old response new
+Does (Ask.Change change) place old request response new =
+    DoesChangeAt change place (headers_of request) (body_of request) old response new
 Does Ask.Live place old request response new = AnswersHandshake (headers_of request) response
 Does (Ask.NotAllowed resource) place old request response new = IsNotAllowed resource response
 Does Ask.Unknown place old request response new = IsUnknown response

@@ -1,15 +1,20 @@
 -- What requests make of a document.
-use Rattle.std.specs.Prelude.{◌≡◌, ◌≢◌, ◌⊎◌, ◌<◌, ◌≤◌, ℕ, false, List, [], ◌∷◌, ◌++◌, codes, length, Result, Err, Ok}
+use Rattle.std.specs.Prelude.{◌≡◌, ◌≢◌, ◌⊎◌, ◌<◌, ◌≤◌, ℕ, false, List, [], ◌∷◌, ◌++◌, codes, length, Result, Err, Ok, if◌then◌else◌}
 use Rattle.std.specs.Global.{Vec}
 use Rattle.std.specs.Int.{to_be_bytes, w32}
 use Rattle.std.specs.Str.{is_utf8}
 use Rattle.http_server.specs.declared.response.Response.{Response}
 use Rattle.rds_codec.specs.Decoding.{Decodes, IsTextOf}
 use Rattle.rds_fields.specs.Tags.{HoldsTagged}
-use Rattle.rds_lines.specs.Editing.{EditsLines, replies_text}
-use Rattle.rds_lines.specs.Lines.{lines_in}
+use Rattle.rds_json.specs.Members.{of_one}
+use Rattle.rds_json.specs.Scalar.{scalar_of}
+use Rattle.rds_lines.specs.Editing.{EditsLines, IsLineRefused, MeetsCommand, replies_text}
+use Rattle.rds_lines.specs.Lines.{is_text_line, lines_in}
+use Rattle.rds_names.specs.AndThen.{◌>>=◌}
+use Rattle.rds_names.specs.Path.{path_of}
 use Rattle.rds_names.specs.declared.fault.Fault.{Fault}
-use Rattle.rds_names.specs.declared.fault.Fault.TheVariants.{Bad, BadName, Cut, Memory, TooLong}
+use Rattle.rds_names.specs.declared.fault.Fault.TheVariants.{Bad, BadLine, BadName, Cut, Memory, TooLong}
+use Rattle.rds_names.specs.declared.scalar.Scalar.{Scalar}
 use Rattle.rds_offline.specs.Letters.{TakesResponse}
 use Rattle.rds_output.specs.Reply.{reply_line}
 use Rattle.rds_output.specs.declared.reply.Reply.{Reply}
@@ -19,11 +24,14 @@ use Rattle.rds_questions.specs.Responding.{RespondGives}
 use Rattle.rds_questions.specs.Tags.{IsTagOf, RefusesTag}
 use Rattle.rds_questions.specs.declared.tags.Tag.{Tag}
 use Rattle.rds_state.specs.Fits.{ReplicaValue}
+use Rattle.rds_state.specs.declared.command.Command.{Command}
+use Rattle.rds_state.specs.declared.command.Command.TheVariants.{Set}
 use Rattle.rds_store.specs.Documents.{IsGrownBy, RefusesGrowth}
 use Rattle.rds_store.specs.Meetings.{MayAnswer, MayAsk, RefusesTaking, RespondsTo}
+use Rattle.serde_json.specs.Read.{read}
 use Rattle.rds_http.specs.Asked.{HasTag}
 use Rattle.rds_http.specs.Lines.{line_count, lines_status}
-use Rattle.rds_http.specs.Looks.{lines_of_json}
+use Rattle.rds_http.specs.Looks.{lines_of_json, path_in}
 use Rattle.rds_http.specs.Refusals.{IsUnknownTag, TellsFault, json}
 use Rattle.rds_http.specs.Replies.{Tells}
 use Rattle.rds_http.specs.declared.lines.TheConstants.{MOST_LINES}
@@ -47,6 +55,27 @@ abbrev pub AnswersEdits : List ℕ → ReplicaValue → ReplicaValue → Respons
 AnswersEdits body before after response =
     ((line_count body ≤ MOST_LINES) × (EditsBody body before after response ⊎ Refuses Memory before after response))
     ⊎ ((MOST_LINES < line_count body) × Refuses TooLong before after response)
+
+-- ---- a register that is put
+
+-- the value that a body of JSON is, which is no longer than a line
+abbrev pub body_value : List ℕ → Result Scalar Fault
+body_value body = if is_text_line body then of_one scalar_of (read body) else Err BadLine
+
+-- the edit that sets the register at a place to that
+abbrev pub put_command : List ℕ → List ℕ → Result Command Fault
+put_command place body = path_in place >>= λ text. path_of text >>= λ path. body_value body >>= λ value. Ok (Set path value)
+
+-- that is done or refused, unless memory ran out
+abbrev pub MeetsPut : List ℕ → List ℕ → ReplicaValue → Reply → ReplicaValue → Type 0
+MeetsPut place body before reply after =
+    IsLineRefused 1 Memory before reply after ⊎ MeetsCommand 1 (put_command place body) before reply after
+
+-- and answered as the one line of a body is
+pub record AnswersPut (place body : List ℕ) (before after : ReplicaValue) (response : Response) : Type 0 where
+  pub reply : Reply
+  pub met : MeetsPut place body before reply after
+  pub told : Tells (lines_status (reply ∷ [])) lines_of_json (replies_text (reply ∷ [])) response
 
 -- ---- growths
 

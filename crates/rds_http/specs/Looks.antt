@@ -28,7 +28,7 @@ use Rattle.rds_store.specs.Looks.{IsValueText, RefusesPlace, here_text, text_at_
 use Rattle.rds_store.specs.Meetings.{MayAsk}
 use Rattle.rds_http.specs.Refusals.{TellsFault, json}
 use Rattle.rds_http.specs.Replies.{Tells, TellsTagged, tag_fields, type_field}
-use Rattle.rds_http.specs.Tags.{is_known, state_tag}
+use Rattle.rds_http.specs.Tags.{always, is_known, state_tag, text_tag}
 use Rattle.rds_http.specs.declared.metrics.PeerCounts.{PeerCounts}
 use Rattle.rds_http.specs.declared.routes.Look.{Look}
 use Rattle.rds_http.specs.declared.routes.Look.TheVariants.{Page, View, Here, Value, Conflicts, Status, Metrics}
@@ -41,10 +41,9 @@ lines_of_json = codes "application/x-ndjson"
 abbrev pub path_in : List ℕ → Result (List ℕ) Fault
 path_in place = if is_utf8 (percent_decode place) then Ok (percent_decode place) else Err BadKey
 
--- the text about a state is told to a request, or no more than that it is known
-abbrev pub TellsOf : Entries FieldValue → StateValue → List ℕ → List ℕ → Response → Type 0
-TellsOf headers state kind text response =
-    TellsTagged (is_known headers (state_tag state)) (state_tag state) kind text response
+-- what has this tag is told to a request, or no more than that it is known
+abbrev pub TellsOf : Entries FieldValue → List ℕ → List ℕ → List ℕ → Response → Type 0
+TellsOf headers tag kind text response = TellsTagged (is_known headers (always tag)) tag kind text response
 
 -- a text about a state, at the path that a place is
 abbrev pub told_in : (StateValue → List (List ℕ) → List ℕ) → StateValue → List ℕ → Result (List ℕ) Fault
@@ -53,7 +52,7 @@ told_in text state place = path_in place >>= λ path. text_at_path text state pa
 -- the text that is due is told, or the fault why there is none
 abbrev pub Shows : Entries FieldValue → StateValue → List ℕ → Result (List ℕ) Fault → Response → Type 0
 Shows headers state kind due response =
-    ((text : List ℕ) × (due ≡ Ok text) × TellsOf headers state kind text response)
+    ((text : List ℕ) × (due ≡ Ok text) × TellsOf headers (state_tag state) kind text response)
     ⊎ ((fault : Fault) × ((fault ≡ Memory) ⊎ (due ≡ Err fault)) × TellsFault fault response)
 
 -- the text is told, or known
@@ -76,10 +75,16 @@ abbrev pub IsNoPlace : List ℕ → Fault → Type 0
 IsNoPlace place fault =
     (path_in place ≡ Err fault) ⊎ ((path : List ℕ) × (path_in place ≡ Ok path) × RefusesPlace path fault)
 
+-- the fault why nothing is told of a place, or want of memory, is told
+abbrev pub TellsNoPlace : List ℕ → Response → Type 0
+TellsNoPlace place response =
+    (fault : Fault) × ((fault ≡ Memory) ⊎ IsNoPlace place fault) × TellsFault fault response
+
+-- what stands at a place is told, with a tag of its own
 abbrev pub ShowsValue : Entries FieldValue → StateValue → List ℕ → Response → Type 0
 ShowsValue headers state place response =
-    ((text : List ℕ) × IsValueAt state place text × TellsOf headers state json text response)
-    ⊎ ((fault : Fault) × ((fault ≡ Memory) ⊎ IsNoPlace place fault) × TellsFault fault response)
+    ((text : List ℕ) × IsValueAt state place text × TellsOf headers (text_tag text) json text response)
+    ⊎ TellsNoPlace place response
 
 -- the text is JSON, of some value
 abbrev pub IsJson : List ℕ → Type 0
@@ -128,7 +133,7 @@ TellsQuestion false tag document response =
 abbrev pub ShowsQuestion : Entries FieldValue → ReplicaValue → Response → Type 0
 ShowsQuestion headers document response =
     ((tag : Tag) × IsTagOf document tag
-    × TellsQuestion (is_known headers (tag_text tag)) (tag_text tag) document response)
+    × TellsQuestion (is_known headers (always (tag_text tag))) (tag_text tag) document response)
     ⊎ ((fault : Fault) × (MayAsk document (Err fault) ⊎ RefusesTag document fault) × TellsFault fault response)
 
 -- a new file of the document is told, or why it has none

@@ -1,5 +1,5 @@
 -- What a request is answered that isn't done.
-use Rattle.std.specs.Prelude.{ℕ, List, [], ◌∷◌, ◌++◌, codes, decimal}
+use Rattle.std.specs.Prelude.{ℕ, List, [], ◌∷◌, ◌++◌, codes, decimal, if◌then◌else◌}
 use Rattle.http_server.specs.declared.response.Response.{Response}
 use Rattle.http_server.specs.Response.{IsResponse}
 use Rattle.rds_names.specs.Fault.{name_of, number_of, words_of}
@@ -7,6 +7,7 @@ use Rattle.rds_names.specs.declared.fault.Fault.{Fault}
 use Rattle.rds_names.specs.declared.fault.Fault.TheVariants.{Memory, TooLong, Conflict, OwnAhead, WrongAsker}
 use Rattle.rds_names.specs.declared.fault.Fault.TheVariants.{WrongGroup, WrongRoster, SameReplica, BadCertificate}
 use Rattle.rds_http.specs.Replies.{Tells, type_field}
+use Rattle.rds_http.specs.Routes.{is_put}
 use Rattle.rds_http.specs.declared.access.Denied.{Denied}
 use Rattle.rds_http.specs.declared.access.Denied.TheVariants as Why
 use Rattle.rds_http.specs.declared.routes.Resource.{Resource}
@@ -67,14 +68,19 @@ IsUnknown response = TellsWords 404 (codes "no such resource") response
 abbrev pub IsUnknownTag : Response → Type 0
 IsUnknownTag response = TellsWords 412 (codes "the tag is of no question that is known") response
 
--- the document's tag isn't one for which the request is meant
+-- the tag of what the conditions of the request are about isn't one for which it is meant: of the document, or of what
+-- stands at a place
 abbrev pub IsUnmet : Response → Type 0
 IsUnmet response = TellsWords 412 (codes "the document's tag doesn't meet the condition") response
 
+abbrev pub IsUnmetAt : Response → Type 0
+IsUnmetAt response = TellsWords 412 (codes "what stands there doesn't meet the condition") response
+
 -- the methods of a resource
 abbrev pub methods_of : Resource → List ℕ
-methods_of (Of.Look look) = codes "GET, HEAD"
+methods_of (Of.Look look) = if is_put look then codes "GET, HEAD, PUT" else codes "GET, HEAD"
 methods_of (Of.Post post) = codes "POST"
+methods_of Of.EditsAt = codes "POST"
 methods_of Of.Live = codes "GET"
 methods_of Of.Unknown = []
 

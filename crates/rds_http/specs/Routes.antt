@@ -1,11 +1,12 @@
 -- What a request asks for, by its method and its path.
-use Rattle.std.specs.Prelude.{ℕ, ◌+◌, Bool, true, false, ◌==◌, ◌||◌, not, nat_lt, bytes_eq, codes, List, [], ◌∷◌, length}
+use Rattle.std.specs.Prelude.{ℕ, ◌+◌, Bool, true, false, ◌==◌, ◌&&◌, ◌||◌, not, nat_lt, bytes_eq, codes, List, [], ◌∷◌, length}
 use Rattle.std.specs.Prelude.{take, drop, Option, None, Some, if◌then◌else◌}
 use Rattle.std.specs.List.{prefix_len}
 use Rattle.rds_http.specs.declared.routes.Look.{Look}
 use Rattle.rds_http.specs.declared.routes.Look.TheVariants.{Page, View, Here, Value, Conflicts, Status, Metrics, Snapshot}
 use Rattle.rds_http.specs.declared.routes.Look.TheVariants as Shown
 use Rattle.rds_http.specs.declared.routes.Post.TheVariants.{Edits, Grow, Answer, Take, Push, Pull, Login}
+use Rattle.rds_http.specs.declared.routes.Change.TheVariants as Changed
 use Rattle.rds_http.specs.declared.routes.Resource.{Resource}
 use Rattle.rds_http.specs.declared.routes.Resource.TheVariants as Of
 use Rattle.rds_http.specs.declared.routes.Asked.{Asked}
@@ -47,9 +48,13 @@ lone_named name =
     else (if bytes_eq name (codes "live") then Of.Live
     else posted_named name)))))
 
+-- what has this name, and takes what is posted for a place
+abbrev pub placed_named : List ℕ → Resource
+placed_named name = if bytes_eq name (codes "edits") then Of.EditsAt else Of.Unknown
+
 abbrev pub resource_with : Option Look → Bool → List ℕ → Resource
 resource_with (Some look) has_place name = Of.Look look
-resource_with None true name = Of.Unknown
+resource_with None true name = placed_named name
 resource_with None false name = lone_named name
 
 -- the resource of this name, with a slash behind it or none
@@ -72,14 +77,31 @@ place_of (b ∷ rest) = drop (prefix_len is_in_name rest + 1) rest
 abbrev pub is_reading : List ℕ → Bool
 is_reading method = bytes_eq method (codes "GET") || bytes_eq method (codes "HEAD")
 
+-- what is shown that may be put too
+abbrev pub is_put : Look → Bool
+is_put Value = true
+is_put _ = false
+
 -- what is asked for by a method of a resource
 abbrev pub asked_with : List ℕ → Resource → Asked
-asked_with method (Of.Look look) = if is_reading method then Ask.Look look else Ask.NotAllowed (Of.Look look)
+asked_with method (Of.Look look) =
+    if is_reading method then Ask.Look look
+    else (if is_put look && bytes_eq method (codes "PUT") then Ask.Change Changed.Set
+    else Ask.NotAllowed (Of.Look look))
 asked_with method (Of.Post post) =
     if bytes_eq method (codes "POST") then Ask.Post post else Ask.NotAllowed (Of.Post post)
+asked_with method Of.EditsAt =
+    if bytes_eq method (codes "POST") then Ask.Change Changed.Edits else Ask.NotAllowed Of.EditsAt
 asked_with method Of.Live = if bytes_eq method (codes "GET") then Ask.Live else Ask.NotAllowed Of.Live
 asked_with method Of.Unknown = Ask.Unknown
 
 -- what a request of this method and this path asks for
 abbrev pub asked_of : List ℕ → List ℕ → Asked
 asked_of method path = asked_with method (resource_of path)
+
+-- to edit the document, or to put a name in its roster
+abbrev pub is_own_change : Asked → Bool
+is_own_change (Ask.Post Edits) = true
+is_own_change (Ask.Post Grow) = true
+is_own_change (Ask.Change change) = true
+is_own_change _ = false

@@ -162,7 +162,7 @@ fn is_host_at(alloc: Global, address: SocketAddr, host: &[u8]) -> Result<bool, A
 fn is_watched(asked: Asked) -> bool
     ensures { result ≡ is_watched asked }
 {
-    matches!(asked, Asked::Post(_) | Asked::Live)
+    matches!(asked, Asked::Post(_) | Asked::Change(_) | Asked::Live)
 }
 
 /// Whether it is asked for something that is shown to none without the token.

@@ -115,7 +115,7 @@ fn edit_in<H: Disk>(
 }
 
 /// Fills a response with the lines of replies, for which there is room, and their status.
-fn tell_replies(response: &mut Response, replies: &[Reply])
+pub fn tell_replies(response: &mut Response, replies: &[Reply])
     requires empty { response.old.body.items ≡ [] }
     requires short { list_all is_short replies.now ≡ true }
     requires room { LONGEST * length replies.now ≤ response.old.body.spare }
@@ -303,7 +303,7 @@ fn letter_in(body: &[u8]) -> Result<(&[u8], &[u8]), Fault>
 }
 
 /// Makes room for so many lines.
-fn make_room(response: &mut Response, lines: usize) -> Result<(), AllocError>
+pub fn make_room(response: &mut Response, lines: usize) -> Result<(), AllocError>
     requires { IsBlank response.old }
     ensures room { OnOk result (LONGEST * lines ≤ response.new.body.spare) }
     ensures blank { IsBlank response.new }

@@ -2,6 +2,7 @@
 ghost use Rattle.std.specs.Prelude.{◌≡◌, IfOk, codes, string_bytes};
 ghost use Rattle.rds_fields.specs.Tokens.{values_in};
 ghost use Rattle.rds_http.specs.Tags.{
+  always,
   has_strong_tag,
   has_tag,
   is_known,
@@ -10,93 +11,151 @@ ghost use Rattle.rds_http.specs.Tags.{
   is_met,
   is_named_by,
   is_same_tag,
+  standing,
   state_tag,
+  text_tag,
   without_blanks,
 };
 
 use crate::access::are_joined;
+use hex::encode;
 use http::HeaderMap;
 use http::header::{HeaderValue, IF_MATCH, IF_NONE_MATCH};
 use rds_store::Document;
+use sha2::{Digest, Sha256};
 use std::alloc::{AllocError, Global};
+use std::marker::Model;
 
-/// Whether a request has what has this tag, which has no comma, and wants no more of it (RFC 9110, 2022): an
-/// `If-None-Match` field names the tag, weak or not, or is `*`.
-pub fn is_known(headers: &HeaderMap<HeaderValue>, tag: &[u8]) -> bool
-    ensures { result ≡ is_known headers.now tag.now }
-{
-    for value in headers.get_all(IF_NONE_MATCH) {
-        if is_named_by(tag, value.as_bytes()) {
-            return true;
-        }
-    }
-    false
+/// What is told of a place where nothing stands.
+const NOTHING: &[u8] = b"{\"counter\":null,\"reg\":[],\"set\":[]}";
+
+/// What the conditions of a request are about: its tag, which has no comma, and whether there is anything.
+#[derive(Drop)]
+pub struct Current {
+    tag: String,
+    is_there: bool,
 }
 
-/// The tag of what is shown of a document, and whether the one that asks knows it.
+impl Model for Current {
+    ghost use Rattle.std.specs.Prelude.{string_bytes};
+    ghost use Rattle.rds_http.specs.Tags.{CurrentValue, coded_current};
+
+    ghost Value = { CurrentValue };
+
+    ghost coded = { coded_current };
+
+    ghost view = { λ c. record { tag = string_bytes c.tag; is_there = c.is_there } };
+}
+
+impl Current {
+    /// What has this tag, which is always there.
+    pub fn always(tag: String) -> Current
+        ensures { result ≡ always (string_bytes tag) }
+    {
+        Current {
+            tag,
+            is_there: true,
+        }
+    }
+
+    /// What stands at a place, by the text that is told of it.
+    pub fn at_place(alloc: Global, text: &[u8]) -> Result<Current, AllocError>
+        ensures { IfOk result (λ current. current ≡ standing text.now) }
+    {
+        Ok(Current {
+            tag: text_tag(alloc, text)?,
+            is_there: text != NOTHING,
+        })
+    }
+
+    /// Whether a request has what this is, and wants no more of it (RFC 9110, 2022): an `If-None-Match` field names the
+    /// tag, weak or not, or is `*` where there is anything.
+    pub fn is_known(&self, headers: &HeaderMap<HeaderValue>) -> bool
+        ensures { result ≡ is_known headers.now self.now }
+    {
+        for value in headers.get_all(IF_NONE_MATCH) {
+            if self.is_named_by(value.as_bytes()) {
+                return true;
+            }
+        }
+        false
+    }
+
+    /// Whether a request with these header fields may change what it wants to where this is so (RFC 9110, 2022): it has
+    /// no `If-Match` field, or one that names the tag, and not as a weak one, or is `*` where there is anything; and
+    /// this isn't known.
+    pub fn meets(&self, headers: &HeaderMap<HeaderValue>) -> bool
+        ensures { result ≡ is_met headers.now self.now }
+    {
+        self.is_matched(headers) && !self.is_known(headers)
+    }
+
+    /// Whether there is no `If-Match` field, or one names the tag, or is `*`.
+    fn is_matched(&self, headers: &HeaderMap<HeaderValue>) -> bool
+        ensures { result ≡ is_matched headers.now self.now }
+    {
+        if headers.get(IF_MATCH).is_none() {
+            return true;
+        }
+        for value in headers.get_all(IF_MATCH) {
+            if self.is_matched_by(value.as_bytes()) {
+                return true;
+            }
+        }
+        false
+    }
+
+    /// Whether a field is `*`, or one of its members the tag.
+    fn is_named_by(&self, value: &[u8]) -> bool
+        ensures { result ≡ is_named_by self.now value.now }
+    {
+        (self.is_there && value == b"*".as_slice()) || has_tag(self.tag.as_bytes(), value)
+    }
+
+    /// Whether a field is `*`, or one of its members the tag, and strong.
+    fn is_matched_by(&self, value: &[u8]) -> bool
+        ensures { result ≡ is_matched_by self.now value.now }
+    {
+        (self.is_there && value == b"*".as_slice()) || has_strong_tag(self.tag.as_bytes(), value)
+    }
+}
+
+/// What is shown has this tag, and whether the one that asks knows it.
 #[derive(Drop)]
 pub struct Seen {
     pub tag: String,
     pub is_known: bool,
 }
 
-/// What a request with these header fields has seen of a document.
-pub fn seen_of(
-    alloc: Global,
-    document: &Document,
-    headers: &HeaderMap<HeaderValue>,
-) -> Result<Seen, AllocError>
-    ensures tag { IfOk result (λ seen. string_bytes seen.tag ≡ state_tag document.now.state) }
-    ensures known { IfOk result (λ seen. seen.is_known ≡ is_known headers.now (state_tag document.now.state)) }
+/// What a request with these header fields has seen of what has this tag.
+pub fn seen_of(tag: String, headers: &HeaderMap<HeaderValue>) -> Seen
+    ensures tag { string_bytes result.tag ≡ string_bytes tag }
+    ensures known { result.is_known ≡ is_known headers.now (always (string_bytes tag)) }
 {
-    let tag = document_tag(alloc, document)?;
-    let is_known = is_known(headers, tag.as_bytes());
-    Ok(Seen { tag, is_known })
-}
-
-/// Whether a request with these header fields may change a document as it is (RFC 9110, 2022): it has no `If-Match` field,
-/// or one that names the document's tag, and not as a weak one, or is `*`; and no `If-None-Match` field of it names the
-/// tag, weak or not, or is `*`.
-pub fn is_met(
-    alloc: Global,
-    document: &Document,
-    headers: &HeaderMap<HeaderValue>,
-) -> Result<bool, AllocError>
-    ensures { IfOk result (λ met. met ≡ is_met headers.now (state_tag document.now.state)) }
-{
-    let tag = document_tag(alloc, document)?;
-    let tag = tag.as_bytes();
-    Ok(is_matched(headers, tag) && !is_known(headers, tag))
-}
-
-/// Whether there is no `If-Match` field, or one names the tag, or is `*`.
-fn is_matched(headers: &HeaderMap<HeaderValue>, tag: &[u8]) -> bool
-    ensures { result ≡ is_matched headers.now tag.now }
-{
-    if headers.get(IF_MATCH).is_none() {
-        return true;
+    let current = Current::always(tag);
+    let is_known = current.is_known(headers);
+    Seen {
+        tag: current.tag,
+        is_known,
     }
-    for value in headers.get_all(IF_MATCH) {
-        if is_matched_by(tag, value.as_bytes()) {
-            return true;
-        }
-    }
-    false
 }
 
 /// The tag of what is shown of a document: its mark, quoted.
-fn document_tag(alloc: Global, document: &Document) -> Result<String, AllocError>
+pub fn document_tag(alloc: Global, document: &Document) -> Result<String, AllocError>
     ensures { IfOk result (λ tag. string_bytes tag ≡ state_tag document.now.state) }
 {
     let mark = document.mark();
     format!(in alloc; "\"{mark}\"")
 }
 
-/// Whether a field is `*`, or one of its members the tag.
-fn is_named_by(tag: &[u8], value: &[u8]) -> bool
-    ensures { result ≡ is_named_by tag.now value.now }
+/// The tag of what stands at a place, by the text that is told of it: the first 16 bytes of the hash of that, as hex
+/// digits, quoted.
+pub fn text_tag(alloc: Global, text: &[u8]) -> Result<String, AllocError>
+    ensures { IfOk result (λ tag. string_bytes tag ≡ text_tag text.now) }
 {
-    value == b"*".as_slice() || has_tag(tag, value)
+    let hash = Sha256::digest(text);
+    let digits = encode(alloc, &hash[..16])?;
+    format!(in alloc; "\"{digits}\"")
 }
 
 /// Whether one of the tags of a field is this one.
@@ -106,13 +165,6 @@ fn has_tag(tag: &[u8], value: &[u8]) -> bool
     value
         .split(|b| *b == b',')
         .any(|member| is_same_tag(tag, without_blanks(member)))
-}
-
-/// Whether a field is `*`, or one of its members the tag, and strong.
-fn is_matched_by(tag: &[u8], value: &[u8]) -> bool
-    ensures { result ≡ is_matched_by tag.now value.now }
-{
-    value == b"*".as_slice() || has_strong_tag(tag, value)
 }
 
 /// Whether one of the tags of a field is this one, and strong.

@@ -1,13 +1,15 @@
-//! The HTTP service over a document in its file: what a request is answered, and what it changes. Read `routes`
-//! and `access` first, then `asked`, `touched` and `tracked`, which has the document in its file. Then
-//! `replies`, `refusals`, `conditions`, `reading`, `pulling`, `metrics`, `lines`, `changing`, `login` and `live`. `site` puts them together;
-//! `meeting` has what a site asks of others, and they of it, and `news` what listeners are told.
+//! The HTTP service over a document in its file: what a request is answered, and what it changes. Read `routes` and
+//! `access` first, then `asked`, `touched` and `tracked`, which has the document in its file. Then `replies`,
+//! `refusals`, `conditions`, `reading`, `pulling`, `families`, `metrics`, `lines`, `changing`, `putting`, `login` and
+//! `live`. `site` puts them together; `meeting` has what a site asks of others, and they of it, and `news` what
+//! listeners are told.
 #![tactic(auto)]
 
 mod access;
 mod asked;
 mod changing;
 mod conditions;
+mod families;
 mod lines;
 mod live;
 mod login;
@@ -15,6 +17,7 @@ mod meeting;
 mod metrics;
 mod news;
 mod pulling;
+mod putting;
 mod reading;
 mod refusals;
 mod replies;
@@ -27,4 +30,5 @@ pub use access::Access;
 pub use asked::LONGEST_QUESTION;
 pub use metrics::{PeerCounts, PeerStanding};
 pub use rds_store::Lacks;
+pub use routes::is_own_change;
 pub use site::Site;

@@ -2,6 +2,11 @@
 ghost use Rattle.std.specs.Prelude.{◌≡◌, IfOk, string_bytes};
 ghost use Rattle.rds_http.specs.Looks.{IsJson};
 
+use crate::families::{
+    BEHIND, CALLER_FORKS, CLIENTS, EDITS, EDITS_REFUSED, LISTENERS, LIVE_ENTRIES, PEER_COMING,
+    PEER_EXCHANGE_AGE, PEER_EXCHANGES, PEER_GOING, PEER_MET, PEER_REFUSALS, PEERS, PEERS_FORKED,
+    PEERS_MET, REQUESTS, SYNCS, TAKES,
+};
 use crate::site::Site;
 use rds_files::Disk;
 use rds_output::Reply;
@@ -38,6 +43,10 @@ pub struct PeerStanding {
     pub ago: Option<u64>,
     /// Why the last exchange that didn't go through broke off, where one did.
     pub why: Option<String>,
+    /// How many bytes have come of an answer that isn't whole.
+    pub coming: u64,
+    /// How many bytes of a request the system hasn't taken yet.
+    pub going: u64,
 }
 
 /// What was counted since the start. A full count stays.
@@ -127,14 +136,14 @@ impl Metrics {
             standings,
         } = self;
         let mut text = String::new(alloc);
-        push_line(&mut text, "rds_edits_total", "counter", *edits)?;
-        push_line(&mut text, "rds_edits_refused_total", "counter", *refused)?;
-        push_line(&mut text, "rds_takes_total", "counter", *takes)?;
-        push_line(&mut text, "rds_syncs_total", "counter", *syncs)?;
-        push_line(&mut text, "rds_requests_total", "counter", *requests)?;
-        push_line(&mut text, "rds_clients", "gauge", *clients as u64)?;
-        push_line(&mut text, "rds_listeners", "gauge", *listeners as u64)?;
-        push_line(&mut text, "rds_live_entries", "gauge", live as u64)?;
+        EDITS.push(&mut text, *edits)?;
+        EDITS_REFUSED.push(&mut text, *refused)?;
+        TAKES.push(&mut text, *takes)?;
+        SYNCS.push(&mut text, *syncs)?;
+        REQUESTS.push(&mut text, *requests)?;
+        CLIENTS.push(&mut text, *clients as u64)?;
+        LISTENERS.push(&mut text, *listeners as u64)?;
+        LIVE_ENTRIES.push(&mut text, live as u64)?;
         push_peers(&mut text, *peers)?;
         if let Some(standings) = standings {
             push_standings(&mut text, standings)?;
@@ -178,7 +187,16 @@ fn standing_value(alloc: Global, standing: &PeerStanding) -> Result<Value, Alloc
     };
     let name = standing.name.as_str();
     let is_met = standing.is_met;
-    json!(in alloc; {"name": name, "met": is_met, "ago": ago, "why": why})
+    let coming = standing.coming;
+    let going = standing.going;
+    json!(in alloc; {
+        "name": name,
+        "met": is_met,
+        "ago": ago,
+        "why": why,
+        "coming": coming,
+        "going": going
+    })
 }
 
 /// Adds the lines of the other nodes.
@@ -192,25 +210,25 @@ fn push_peers(text: &mut String, peers: PeerCounts) -> Result<(), AllocError> {
         forks,
         is_behind,
     } = peers;
-    push_line(text, "rds_peers", "gauge", named as u64)?;
-    push_line(text, "rds_peers_met", "gauge", met as u64)?;
-    push_line(text, "rds_peers_forked", "gauge", forked as u64)?;
-    push_line(text, "rds_peer_refusals_total", "counter", refused)?;
-    push_line(text, "rds_peer_exchanges_total", "counter", exchanges)?;
-    push_line(text, "rds_caller_forks_total", "counter", forks)?;
-    push_line(text, "rds_behind", "gauge", u64::from(is_behind))
+    PEERS.push(text, named as u64)?;
+    PEERS_MET.push(text, met as u64)?;
+    PEERS_FORKED.push(text, forked as u64)?;
+    PEER_REFUSALS.push(text, refused)?;
+    PEER_EXCHANGES.push(text, exchanges)?;
+    CALLER_FORKS.push(text, forks)?;
+    BEHIND.push(text, u64::from(is_behind))
 }
 
-/// Adds the lines of each of the other nodes, whose names have no quotes: whether it was met when it was called last, and
-/// how long ago an exchange with it went through.
+/// Adds the lines of each of the other nodes, whose names have no quotes: whether it was met when it was called last, how
+/// long ago an exchange with it went through, and how much of one is under way.
 fn push_standings(text: &mut String, standings: &[PeerStanding]) -> Result<(), AllocError> {
-    writeln!(text, "# TYPE rds_peer_met gauge")?;
+    PEER_MET.push_head(text)?;
     for standing in standings {
         let name = standing.name.as_str();
         let is_met = u8::from(standing.is_met);
         writeln!(text, "rds_peer_met{{peer=\"{name}\"}} {is_met}")?;
     }
-    writeln!(text, "# TYPE rds_peer_exchange_age_seconds gauge")?;
+    PEER_EXCHANGE_AGE.push_head(text)?;
     for standing in standings {
         if let Some(seconds) = standing.ago {
             let name = standing.name.as_str();
@@ -220,11 +238,17 @@ fn push_standings(text: &mut String, standings: &[PeerStanding]) -> Result<(), A
             )?;
         }
     }
+    PEER_COMING.push_head(text)?;
+    for standing in standings {
+        let name = standing.name.as_str();
+        let count = standing.coming;
+        writeln!(text, "rds_peer_coming_bytes{{peer=\"{name}\"}} {count}")?;
+    }
+    PEER_GOING.push_head(text)?;
+    for standing in standings {
+        let name = standing.name.as_str();
+        let count = standing.going;
+        writeln!(text, "rds_peer_going_bytes{{peer=\"{name}\"}} {count}")?;
+    }
     Ok(())
-}
-
-/// Adds the lines of one number: its type, and what it is.
-fn push_line(text: &mut String, name: &str, kind: &str, number: u64) -> Result<(), AllocError> {
-    writeln!(text, "# TYPE {name} {kind}")?;
-    writeln!(text, "{name} {number}")
 }

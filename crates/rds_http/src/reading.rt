@@ -1,19 +1,18 @@
 //! Requests that only look.
-ghost use Rattle.std.specs.Prelude.{◌≡◌, ◌⊎◌, ◌∷◌, ◌++◌, [], ℕ, Err, IfErr, IfOk, IsTrue, List, MatchResult, None, Ok};
+ghost use Rattle.std.specs.Prelude.{◌≡◌, ◌⊎◌, ◌∷◌, [], ℕ, Err, IfErr, IfOk, IsTrue, List, MatchResult, None, Ok};
 ghost use Rattle.std.specs.Prelude.{OnOk, option_map, string_bytes};
 ghost use Rattle.http_header.specs.FieldValue.{is_visible_text};
 ghost use Rattle.http_server.specs.Response.{IsBlank, IsResponse};
 ghost use Rattle.rds_listing.specs.Conflicts.{conflicts_text};
 ghost use Rattle.rds_names.specs.Path.{path_of};
 ghost use Rattle.rds_names.specs.declared.fault.Fault.TheVariants.{Memory};
-ghost use Rattle.rds_store.specs.Looks.{RefusesPlace, here_text, view_text};
 ghost use Rattle.rds_questions.specs.Tags.{IsTagOf};
+ghost use Rattle.rds_store.specs.Looks.{here_text, view_text};
 ghost use Rattle.rds_http.specs.Changes.{AnswersQuestion};
 ghost use Rattle.rds_http.specs.Looks.{
   AnswersLook,
   IsJson,
   IsNoPlace,
-  IsToldOf,
   IsValueAt,
   MayShow,
   Shows,
@@ -21,6 +20,7 @@ ghost use Rattle.rds_http.specs.Looks.{
   ShowsSnapshot,
   ShowsStatus,
   ShowsValue,
+  TellsOf,
   lines_of_json,
   own_field,
   page_fields,
@@ -30,8 +30,9 @@ ghost use Rattle.rds_http.specs.Looks.{
 };
 ghost use Rattle.rds_http.specs.Replies.{TellsIfUnknown};
 ghost use Rattle.rds_http.specs.Refusals.{TellsFault, json};
+ghost use Rattle.rds_http.specs.Tags.{text_tag};
 
-use crate::conditions::{Seen, is_known, seen_of};
+use crate::conditions::{Seen, document_tag, seen_of, text_tag};
 use crate::metrics::{Metrics, PeerCounts};
 use crate::refusals::refuse;
 use crate::replies::{BYTES, JSON, LINES, add_field, fill, fill_tagged, tell_known};
@@ -47,7 +48,6 @@ use http_server::Response;
 use percent_encoding::{DecodeError, percent_decode};
 use rds_fields::tag_text;
 use rds_files::Disk;
-use rds_lines::place_of;
 use rds_names::{Fault, Path};
 use rds_page::{PAGE, POLICY};
 use rds_questions::Tag;
@@ -129,14 +129,15 @@ fn tell_question(
     ensures { OnOk result (ShowsQuestion headers.now document.now response.new) }
 {
     let text = tag_text(alloc, &tag)?;
-    if is_known(headers, text.as_bytes()) {
+    let seen = seen_of(text, headers);
+    if seen.is_known {
         add_own(alloc, document, response)?;
-        return tell_known(response, text);
+        return tell_known(response, seen.tag);
     }
     match document.ask() {
         Ok(bytes) => {
             add_own(alloc, document, response)?;
-            fill_tagged(response, BYTES, text, bytes)
+            fill_tagged(response, BYTES, seen.tag, bytes)
         }
         Err(fault) => refuse(alloc, fault, response),
     }
@@ -182,7 +183,8 @@ fn show_view(
     ensures { OnOk result
         (Shows headers.now document.now.state json (told_in view_text document.now.state place.now) response.new) }
 {
-    let seen = seen_of(alloc, document, headers)?;
+    let tag = document_tag(alloc, document)?;
+    let seen = seen_of(tag, headers);
     let told = view_at(alloc, document, &seen, place);
     show(alloc, told, JSON, seen, response)
 }
@@ -199,7 +201,8 @@ fn show_here(
     ensures { OnOk result
         (Shows headers.now document.now.state json (told_in here_text document.now.state place.now) response.new) }
 {
-    let seen = seen_of(alloc, document, headers)?;
+    let tag = document_tag(alloc, document)?;
+    let seen = seen_of(tag, headers);
     let told = here_at(alloc, document, &seen, place);
     show(alloc, told, JSON, seen, response)
 }
@@ -215,9 +218,29 @@ fn show_value(
     requires { IsBlank response.old }
     ensures { OnOk result (ShowsValue headers.now document.now.state place.now response.new) }
 {
-    let seen = seen_of(alloc, document, headers)?;
-    let told = value_at(alloc, document, &seen, place);
-    show(alloc, told, JSON, seen, response)
+    match value_at(alloc, document, place) {
+        Ok(text) => tell_value(alloc, text, headers, response),
+        Err(fault) => refuse(alloc, fault, response),
+    }
+}
+
+/// Answers with the text of what stands at a place, and its tag.
+fn tell_value(
+    alloc: Global,
+    text: String,
+    headers: &HeaderMap<HeaderValue>,
+    response: &mut Response,
+) -> Result<(), AllocError>
+    requires { IsBlank response.old }
+    ensures { OnOk result
+        (TellsOf headers.now (text_tag (string_bytes text)) json (string_bytes text) response.new) }
+{
+    let tag = text_tag(alloc, text.as_bytes())?;
+    let seen = seen_of(tag, headers);
+    if seen.is_known {
+        return tell_known(response, seen.tag);
+    }
+    fill_tagged(response, JSON, seen.tag, text.into_bytes())
 }
 
 /// Answers with the registers below a place that have more than one value.
@@ -233,7 +256,8 @@ fn show_conflicts(
         (Shows headers.now document.now.state lines_of_json
         (told_in conflicts_text document.now.state place.now) response.new) }
 {
-    let seen = seen_of(alloc, document, headers)?;
+    let tag = document_tag(alloc, document)?;
+    let seen = seen_of(tag, headers);
     let told = conflicts_at(alloc, document, &seen, place);
     show(alloc, told, LINES, seen, response)
 }
@@ -308,22 +332,13 @@ fn conflicts_at(
     Ok(Some(document.conflicts(&path)?))
 }
 
-/// What stands at a place. `None` where that is known.
-fn value_at(
-    alloc: Global,
-    document: &Document,
-    seen: &Seen,
-    place: &[u8],
-) -> Result<Option<String>, Fault>
-    ensures told { IfOk result (λ told. (text : List ℕ) × IsValueAt document.now.state place.now text
-        × IsToldOf seen.now.is_known text told) }
+/// What is told of what stands at a place. The root is none (`BadPath`), nor is what is no path (`BadPath`, `BadKey`).
+pub fn value_at(alloc: Global, document: &Document, place: &[u8]) -> Result<String, Fault>
+    ensures told { IfOk result (λ text. IsValueAt document.now.state place.now (string_bytes text)) }
     ensures fault { IfErr result (λ fault. (fault ≡ Memory) ⊎ IsNoPlace place.now fault) }
 {
     let path = path_in(alloc, place)?;
-    if seen.is_known {
-        return known_leaf(alloc, &path);
-    }
-    Ok(Some(document.value_json(&path)?))
+    document.value_json(&path)
 }
 
 /// What is known of a path is told no more. A text that is no path is refused (`BadPath`, `BadKey`).
@@ -335,18 +350,8 @@ fn known_path(alloc: Global, path: &str) -> Result<Option<String>, Fault>
     Ok(None)
 }
 
-/// The same of a path below the root.
-fn known_leaf(alloc: Global, path: &str) -> Result<Option<String>, Fault>
-    ensures known { IfOk result (λ told. (told ≡ None)
-        × ((above : List (List ℕ)) × (key : List ℕ) × (path_of path.now ≡ Ok (above ++ key ∷ [])))) }
-    ensures fault { IfErr result (λ fault. (fault ≡ Memory) ⊎ RefusesPlace path.now fault) }
-{
-    let _place = place_of(alloc, &Path::new(alloc, path)?)?;
-    Ok(None)
-}
-
 /// The path that a percent-encoded place is. Bytes that are no UTF-8 are no keys.
-fn path_in(alloc: Global, place: &[u8]) -> Result<String, Fault>
+pub fn path_in(alloc: Global, place: &[u8]) -> Result<String, Fault>
     ensures { MatchResult result (λ path. path_in place.now ≡ Ok (string_bytes path))
         (λ fault. (fault ≡ Memory) ⊎ (path_in place.now ≡ Err fault)) }
 {

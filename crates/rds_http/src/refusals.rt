@@ -8,6 +8,7 @@ ghost use Rattle.rds_http.specs.Refusals.{
   IsUnknown,
   IsUnknownTag,
   IsUnmet,
+  IsUnmetAt,
   TellsFault,
   TellsWords,
   fault_json,
@@ -16,7 +17,7 @@ ghost use Rattle.rds_http.specs.Refusals.{
 
 use crate::access::Denied;
 use crate::replies::{JSON, add_field, fill};
-use crate::routes::Resource;
+use crate::routes::{Resource, is_put};
 use http::StatusCode;
 use http::header::{ALLOW, WWW_AUTHENTICATE};
 use http_server::Response;
@@ -75,6 +76,18 @@ pub fn refuse_unmet(alloc: Global, response: &mut Response) -> Result<(), AllocE
     )
 }
 
+/// Answers that what stands at a place isn't what the request is meant for.
+pub fn refuse_unmet_at(alloc: Global, response: &mut Response) -> Result<(), AllocError>
+    requires { IsBlank response.old }
+    ensures { OnOk result (IsUnmetAt response.new) }
+{
+    refuse_condition(
+        alloc,
+        "what stands there doesn't meet the condition",
+        response,
+    )
+}
+
 /// Answers by words that a request was made of something else than what is here.
 fn refuse_condition(alloc: Global, words: &str, response: &mut Response) -> Result<(), AllocError>
     requires { IsBlank response.old }
@@ -99,8 +112,9 @@ pub fn refuse_method(
         response,
     )?;
     let methods = match resource {
+        Resource::Look(look) if is_put(look) => "GET, HEAD, PUT",
         Resource::Look(_) => "GET, HEAD",
-        Resource::Post(_) => "POST",
+        Resource::Post(_) | Resource::EditsAt => "POST",
         Resource::Live => "GET",
         Resource::Unknown => "",
     };

@@ -4,11 +4,14 @@ ghost use Rattle.std.specs.List.{prefix_len};
 ghost use Rattle.rds_http.specs.Routes.{
   asked_of,
   asked_with,
+  is_own_change,
   is_in_name,
+  is_put,
   is_reading,
   lone_named,
   look_named,
   place_of,
+  placed_named,
   posted_named,
   resource_named,
   resource_of,
@@ -56,6 +59,15 @@ pub enum Post {
     Login,
 }
 
+/// What may be changed where what stands at a place is as the request wants it.
+#[derive(Clone, Copy, Debug, PartialEq, Eq)]
+pub enum Change {
+    /// The document, by lines that edit it.
+    Edits,
+    /// The register at the place.
+    Set,
+}
+
 /// What a path names.
 #[derive(Clone, Copy, Debug, PartialEq, Eq)]
 pub enum Resource {
@@ -63,6 +75,8 @@ pub enum Resource {
     Look(Look),
     /// Something that takes what is posted.
     Post(Post),
+    /// Something that takes lines that edit the document, for a place.
+    EditsAt,
     /// The turns, as they come.
     Live,
     /// Nothing.
@@ -76,6 +90,8 @@ pub enum Asked {
     Look(Look),
     /// To take what it brings.
     Post(Post),
+    /// To take what it brings for a place.
+    Change(Change),
     /// To be told of each turn.
     Live,
     /// Something by a method that the resource doesn't have.
@@ -104,13 +120,28 @@ pub fn route_of<'a>(method: &[u8], path: &'a [u8]) -> Route<'a>
     }
 }
 
+/// Whether a request of this method and this path is to edit the document, or to put a name in its roster.
+pub fn is_own_change(method: &[u8], path: &[u8]) -> bool
+    ensures { result ≡ is_own_change (asked_of method.now path.now) }
+{
+    let route = route_of(method, path);
+    matches!(
+        route.asked,
+        Asked::Post(Post::Edits | Post::Grow) | Asked::Change(_)
+    )
+}
+
 /// What is asked for by a method of a resource.
 fn asked_with(method: &[u8], resource: Resource) -> Asked
     ensures { result ≡ asked_with method.now resource }
 {
     match resource {
         Resource::Look(look) if is_reading(method) => Asked::Look(look),
+        Resource::Look(look) if is_put(look) && method == b"PUT".as_slice() => {
+            Asked::Change(Change::Set)
+        }
         Resource::Post(post) if method == b"POST".as_slice() => Asked::Post(post),
+        Resource::EditsAt if method == b"POST".as_slice() => Asked::Change(Change::Edits),
         Resource::Live if method == b"GET".as_slice() => Asked::Live,
         Resource::Unknown => Asked::Unknown,
         _ => Asked::NotAllowed(resource),
@@ -122,6 +153,13 @@ fn is_reading(method: &[u8]) -> bool
     ensures { result ≡ is_reading method.now }
 {
     method == b"GET".as_slice() || method == b"HEAD".as_slice()
+}
+
+/// Whether what is shown may be put too.
+pub fn is_put(look: Look) -> bool
+    ensures { result ≡ is_put look }
+{
+    matches!(look, Look::Value)
 }
 
 /// What a path names.
@@ -168,7 +206,7 @@ fn resource_named(name: &[u8], has_place: bool) -> Resource
 {
     match (look_named(name), has_place) {
         (Some(look), _) => Resource::Look(look),
-        (None, true) => Resource::Unknown,
+        (None, true) => placed_named(name),
         (None, false) => lone_named(name),
     }
 }
@@ -187,6 +225,17 @@ fn look_named(name: &[u8]) -> Option<Look>
         Some(Look::Conflicts)
     } else {
         None
+    }
+}
+
+/// What has this name, and takes what is posted for a place.
+fn placed_named(name: &[u8]) -> Resource
+    ensures { result ≡ placed_named name.now }
+{
+    if name == b"edits".as_slice() {
+        Resource::EditsAt
+    } else {
+        Resource::Unknown
     }
 }
 

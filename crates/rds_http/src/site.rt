@@ -5,6 +5,8 @@ ghost use Rattle.http_server.specs.Response.{IsBlank};
 ghost use Rattle.rds_files.specs.Files.{IsUnkept};
 ghost use Rattle.rds_http.specs.Answers.{
   Does,
+  DoesChange,
+  DoesChangeAt,
   DoesPost,
   DoesPostUnless,
   KeepsRest,
@@ -18,14 +20,15 @@ ghost use Rattle.rds_http.specs.Site.{after_keep};
 
 use crate::access::Access;
 use crate::changing::{Held, edit, grow, push, take};
-use crate::conditions::is_met;
+use crate::conditions::{Current, document_tag};
 use crate::live::upgrade;
 use crate::login::log_in;
 use crate::metrics::Metrics;
 use crate::pulling::pull;
-use crate::reading::{answer, look};
-use crate::refusals::{deny, refuse_method, refuse_unknown, refuse_unmet};
-use crate::routes::{Asked, Post, Route, route_of};
+use crate::putting::put;
+use crate::reading::{answer, look, value_at};
+use crate::refusals::{deny, refuse, refuse_method, refuse_unknown, refuse_unmet, refuse_unmet_at};
+use crate::routes::{Asked, Change, Post, Route, route_of};
 use crate::tracked::Tracked;
 use bytes::Bytes;
 use http::header::HeaderValue;
@@ -190,6 +193,7 @@ impl<H: Disk> Site<'_, H> {
                 )
             }
             Asked::Post(post) => self.respond_to_post(post, request, response),
+            Asked::Change(change) => self.respond_at(change, route.place, request, response),
             Asked::Live => upgrade(alloc, request, response),
             Asked::NotAllowed(resource) => refuse_method(alloc, resource, response),
             Asked::Unknown => refuse_unknown(alloc, response),
@@ -225,8 +229,8 @@ impl<H: Disk> Site<'_, H> {
         if !is_conditional(post) {
             return Ok(false);
         }
-        let is_met = is_met(self.alloc, self.held.file.document(), headers)?;
-        Ok(!is_met)
+        let current = Current::always(document_tag(self.alloc, self.held.file.document())?);
+        Ok(!current.meets(headers))
     }
 
     /// Does what is posted, and answers that.
@@ -259,6 +263,62 @@ impl<H: Disk> Site<'_, H> {
             Post::Pull => pull(alloc, &mut self.held.file, body, response),
             Post::Answer => answer(alloc, self.held.file.document(), body, response),
             Post::Login => log_in(alloc, &self.access, body, response),
+        }
+    }
+
+    /// Answers what is sent for a place, unless the request has conditions that what stands there doesn't meet (412). A
+    /// place that is no path below the root is refused (`BadPath`, `BadKey`).
+    fn respond_at(
+        &mut self,
+        change: Change,
+        place: &[u8],
+        request: &Request<Bytes>,
+        response: &mut Response,
+    ) -> Result<(), AllocError>
+        requires { IsBlank response.old }
+        ensures done { OnOk result
+            (DoesChangeAt change place.now (headers_of request.now) (body_of request.now) self.old response.new
+            self.new) }
+        ensures rest { KeepsRest self.old self.new }
+        ensures refused { OnOk result (response.new.status ≢ 200 → self.new ≡ self.old) }
+        ensures err { OnErr result (self.new ≡ self.old) }
+    {
+        let alloc = self.alloc;
+        let current = match value_at(alloc, self.held.file.document(), place) {
+            Ok(text) => Current::at_place(alloc, text.as_bytes())?,
+            Err(fault) => return refuse(alloc, fault, response),
+        };
+        if !current.meets(request.headers()) {
+            return refuse_unmet_at(alloc, response);
+        }
+        self.change(change, place, request.body().as_slice(), response)
+    }
+
+    /// Does what is sent for a place, and answers that.
+    fn change(
+        &mut self,
+        change: Change,
+        place: &[u8],
+        body: &[u8],
+        response: &mut Response,
+    ) -> Result<(), AllocError>
+        requires { IsBlank response.old }
+        ensures done { OnOk result (DoesChange change place.now body.now self.old response.new self.new) }
+        ensures rest { KeepsRest self.old self.new }
+        ensures refused { OnOk result (response.new.status ≢ 200 → self.new ≡ self.old) }
+        ensures err { OnErr result (self.new ≡ self.old) }
+    {
+        let alloc = self.alloc;
+        match change {
+            Change::Edits => self.do_post(Post::Edits, body, response),
+            Change::Set => put(
+                alloc,
+                &mut self.held,
+                &mut self.metrics,
+                place,
+                body,
+                response,
+            ),
         }
     }
 }

@@ -134,7 +134,7 @@ function checkKeys(path) {
 
 const ask = async (where, body) => (await answered(where, body)).text;
 
-// What the node answers, and the mark of the document, which is the tag of what it shows.
+// What the node answers, and the mark of the document, which is the tag of what /doc, /here and /conflicts show.
 async function answered(where, body) {
   let answer, text;
   try {
@@ -267,10 +267,9 @@ function listen() {
   refresh();
 }
 
-// Asks whether anything has changed that wasn't told: then it may be anything. Each answer has the mark, and this one
-// is short.
+// Asks whether anything has changed that wasn't told: then it may be anything. This look is short, and has the mark.
 async function catchUp() {
-  const before = turn, now = (await answered("/value/-")).mark;
+  const before = turn, now = (await answered("/here/-")).mark;
   if (turn !== before || now && now === mark) return;
   mark = now;
   touch(null);

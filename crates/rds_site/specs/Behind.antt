@@ -1,21 +1,16 @@
 -- What a site answers whose file may be older than what its replica has sent.
-use Rattle.std.specs.Prelude.{◌≡◌, ℕ, Bool, true, false, ◌&&◌, ◌||◌, List, bytes_eq, codes}
-use Rattle.http.specs.Request.{head_of}
+use Rattle.std.specs.Prelude.{◌≡◌, ℕ, Bool, true, false, List, codes}
 use Rattle.http.specs.declared.request.Request.{Request}
 use Rattle.http_server.specs.declared.response.Response.{Response}
-use Rattle.http_uri.specs.Uri.{uri_path}
-use Rattle.rds_http.specs.Answers.{Answers}
+use Rattle.rds_http.specs.Answers.{Answers, asked_in}
 use Rattle.rds_http.specs.Refusals.{json}
 use Rattle.rds_http.specs.Replies.{Tells}
+use Rattle.rds_http.specs.Routes.{is_own_change}
 use Rattle.rds_http.specs.Site.{SiteValue}
 
 -- the request is to edit the document, or to put a name in its roster
-abbrev pub is_edit_at : List ℕ → List ℕ → Bool
-is_edit_at method path =
-    bytes_eq method (codes "POST") && (bytes_eq path (codes "/edits") || bytes_eq path (codes "/grow"))
-
 abbrev pub is_edit : Request (List ℕ) → Bool
-is_edit request = is_edit_at (head_of request).method (uri_path (head_of request).uri)
+is_edit request = is_own_change (asked_in request)
 
 -- the fault is told
 abbrev pub TellsBehind : Response → Type 0

@@ -25,8 +25,10 @@ const REFUSAL: &[u8] =
 pub fn is_edit(request: &Request<Bytes>) -> bool
     ensures { result ≡ is_edit request.now }
 {
-    let path = request.uri().path().as_bytes();
-    is_post(request) && (path == b"/edits".as_slice() || path == b"/grow".as_slice())
+    rds_http::is_own_change(
+        request.method().as_str().as_bytes(),
+        request.uri().path().as_bytes(),
+    )
 }
 
 /// Whether a request brought something of the replica's own that the file lacks, and was refused for that.

@@ -62,6 +62,11 @@ impl Channel {
         self.talk.room()
     }
 
+    /// How much of a request waits to be sent, in bytes.
+    pub fn going(&self) -> usize {
+        self.talk.output.len()
+    }
+
     /// Writes a request.
     pub fn request(
         &mut self,

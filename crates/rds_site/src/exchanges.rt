@@ -131,6 +131,11 @@ impl Exchange {
         self.channel.room()
     }
 
+    /// How much of a request waits to be sent, in bytes.
+    pub fn going(&self) -> usize {
+        self.channel.going()
+    }
+
     /// How long the peer may let wait, where it does.
     pub fn wait(&self) -> Option<Wait> {
         if self.is_resting() {

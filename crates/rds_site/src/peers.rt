@@ -102,6 +102,8 @@ impl<'a> Peer<'a> {
             is_met: self.standing == Standing::Met,
             ago: self.met.map(|met| now.duration_since(met).as_secs()),
             why,
+            coming: self.room() as u64,
+            going: self.going() as u64,
         })
     }
 
@@ -120,6 +122,14 @@ impl<'a> Peer<'a> {
         match &self.link {
             Link::Away | Link::Opening(..) => 0,
             Link::Open(exchange) => exchange.room(),
+        }
+    }
+
+    // How much of a request waits to be sent, in bytes.
+    fn going(&self) -> usize {
+        match &self.link {
+            Link::Away | Link::Opening(..) => 0,
+            Link::Open(exchange) => exchange.going(),
         }
     }
 

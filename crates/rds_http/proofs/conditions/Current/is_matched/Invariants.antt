@@ -2,10 +2,10 @@ use Rattle.std.proofs.Common.{◌≡◌, codes, map}
 use Rattle.std.specs.List.{list_any}
 use Rattle.rds_fields.specs.Tokens.{values_in}
 use Rattle.rds_http.specs.Tags.{is_matched_by}
-use Rattle.rds_http.proofs.conditions.is_matched.Given as goal
+use Rattle.rds_http.proofs.conditions.Current.is_matched.Given as goal
 
 -- none of the conditions so far names the tag
 abbrev pub invariant-loop-value : goal.invariant-loop-value
 invariant-loop-value l =
-    list_any (is_matched_by l.tag) (map (λ v. v.bytes) l.value-iterator)
-    ≡ list_any (is_matched_by l.tag) (values_in l.headers (codes "if-match"))
+    list_any (is_matched_by l.self) (map (λ v. v.bytes) l.value-iterator)
+    ≡ list_any (is_matched_by l.self) (values_in l.headers (codes "if-match"))
