@@ -1,5 +1,5 @@
 -- Texts of tags, and the digits in them.
-use Rattle.std.proofs.Common.{◌≡◌, ◌∙◌, ℕ, zero, suc, ◌+◌, ◌/◌, ◌%◌, ◌<◌, ◌^◌, bytes_eq, false, List, [], ◌∷◌, ◌++◌, take, drop, length, Result, Ok, Err, MatchResult, map, refl, sym, ap, subst, arith}
+use Rattle.std.proofs.Common.{append_assoc, codes, ◌≡◌, ◌∙◌, ℕ, zero, suc, ◌+◌, ◌/◌, ◌%◌, ◌<◌, ◌^◌, bytes_eq, false, List, [], ◌∷◌, ◌++◌, take, drop, length, Result, Ok, Err, MatchResult, map, refl, sym, ap, subst, arith}
 use Rattle.std.specs.Int.{to_be_bytes, w64}
 use Rattle.std.specs.List.{IsSplitAt}
 use Rattle.std.specs.Str.{IsAscii}
@@ -52,6 +52,15 @@ frame_of text start hash dash mark end h m s of_hash of_mark is =
     let third = same_parts dash s.three (45 ∷ []) (m ++ 34 ∷ []) s.dash_len (sym s.at_dash ∙ second.1) in
     let last = same_parts mark end m (34 ∷ []) (s.mark_len ∙ sym of_mark) (sym s.at_mark ∙ third.1) in
     record { opens = first.0; parts = third.0; closes = last.1 }
+
+-- what is written part by part is the text of a tag
+pub joined : (hash high low h a b : List ℕ) → h ≡ hash → a ≡ high → b ≡ low
+    → codes "\"" ++ (h ++ (codes "-" ++ (a ++ (b ++ codes "\"")))) ≡ quoted hash (high ++ low)
+joined hash high low h a b of_hash of_high of_low =
+    ap (λ x. codes "\"" ++ (x ++ (codes "-" ++ (a ++ (b ++ codes "\""))))) of_hash
+    ∙ ap (λ x. codes "\"" ++ (hash ++ (codes "-" ++ (x ++ (b ++ codes "\""))))) of_high
+    ∙ ap (λ x. codes "\"" ++ (hash ++ (codes "-" ++ (high ++ (x ++ codes "\""))))) of_low
+    ∙ ap (λ x. codes "\"" ++ (hash ++ (codes "-" ++ x))) (sym (append_assoc high low (codes "\"")))
 
 -- so long is the text of a tag
 pub length_of : (text h m : List ℕ) → length h ≡ 64 → length m ≡ 32 → text ≡ quoted h m → length text ≡ 99

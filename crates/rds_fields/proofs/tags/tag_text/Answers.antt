@@ -1,5 +1,9 @@
+use Rattle.std.proofs.Common.{◌≡◌, ◌∙◌, string_bytes}
 use Rattle.std.specs.Int.{to_be_bytes, w64}
-use Rattle.rds_fields.proofs.TagTexts.{are_ascii}
+use Rattle.std.proofs.lemmas.Result.{IfOk-weaker}
+use Rattle.hex.specs.Hex.{encode_lower}
+use Rattle.rds_fields.specs.Tags.{half_text, tag_text}
+use Rattle.rds_fields.proofs.TagTexts.{are_ascii, joined}
 use Rattle.rds_fields.proofs.tags.tag_text.Goals as goal
 
 pub text_of-hash-requires : goal.text_of-hash-requires
@@ -10,3 +14,15 @@ text_of-high-requires c = are_ascii c.half_digits-high.result (to_be_bytes w64 c
 
 pub text_of-low-requires : goal.text_of-low-requires
 text_of-low-requires c = are_ascii c.half_digits-low.result (to_be_bytes w64 c.args.tag.now.mark.low) c.half_digits-low.ensures
+
+pub returns : goal.returns
+unfolding tag_text
+returns c =
+    let tag = c.args.tag.now in
+    record {
+      ok = IfOk-weaker c.format.result _ (λ text. string_bytes text ≡ tag_text tag)
+          (λ text is. is
+          ∙ joined (encode_lower tag.hash) (half_text tag.mark.high) (half_text tag.mark.low) c.text_of-hash.result.now c.text_of-high.result.now c.text_of-low.result.now
+          (c.text_of-hash.ensures ∙ c.hash_digits-hash.ensures) (c.text_of-high.ensures ∙ c.half_digits-high.ensures) (c.text_of-low.ensures ∙ c.half_digits-low.ensures))
+          c.format.ensures.ok;
+    }
