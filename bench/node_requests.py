@@ -240,7 +240,8 @@ def judge_heads(node):
         want(node.count(name) == number, f"{name} is {node.count(name)}, where {number} is due")
     text = node.answer("GET", "/metrics").body.decode()
     families, helped = (re.findall(rf"^{line}", text, re.M) for line in (r"# TYPE (\w+) (?:counter|gauge)$", HELPED))
-    want(len(families) == 17 and families == helped, f"the metrics are {families}, and those that tell what they are {helped}")
+    told = f"the metrics are {families}, and those that tell what they are {helped}"
+    want(len(families) == 19 and families == helped, told)
 
 
 def judge_pipes(node):
