@@ -1,4 +1,4 @@
-use Rattle.std.proofs.Common.{◌≡◌, ℕ, List, Bool, true, false, Result, Ok, Err, refl, subst, absurd, inr, if◌then◌else◌, arith}
+use Rattle.std.proofs.Common.{◌≡◌, ℕ, List, Bool, true, false, Result, Ok, Err, refl, subst, inr, if◌then◌else◌, arith}
 use Rattle.serde_json.specs.Read.{read}
 use Rattle.rds_json.specs.MayGive.{MayGive}
 use Rattle.rds_json.specs.Members.{of_one}
