@@ -3,6 +3,7 @@ import concurrent.futures
 import contextlib
 import json
 import socket
+import subprocess
 import threading
 import time
 
@@ -11,6 +12,8 @@ from serving import HOST, TOKEN, Node, free_port, is_served, running, want
 # Bytes a second of the links, and of a client that is too slow for a request.
 SPEED = 32_768
 TOO_SLOW = 500
+# So many seconds are enough for what takes one or two minutes.
+MOST = 240
 # How many entries are given over such a link, and how many make an answer that no system takes at once.
 GIVEN = 20_000
 ALL = 60_000
@@ -107,8 +110,10 @@ def edited(program, folder, own):
 def give_by_file(node, port, folder):
     """A file gives much over a slow link."""
     given = edited(node.program, folder, "b")
-    told = given.told("sync", "a.rds", f"http://{HOST}:{port}", "--token-file", "token")
-    want(told == b'{"taken":0}\n', f"a file that meets a node over a slow link is told {told}")
+    words = [given.program, "sync", "a.rds", f"http://{HOST}:{port}", "--token-file", "token"]
+    ran = subprocess.run(words, cwd=given.folder, stdout=subprocess.PIPE, timeout=MOST)
+    told = ran.returncode, ran.stdout
+    want(told == (0, b'{"taken":0}\n'), f"a file that meets a node over a slow link is told {told}")
 
 
 def give_by_node(node, port, folder):
@@ -116,7 +121,7 @@ def give_by_node(node, port, folder):
     giving = edited(node.program, folder, "c")
     giving.meets(port)
     with running(giving):
-        until = time.monotonic() + 240
+        until = time.monotonic() + MOST
         while node.count("rds_takes_total") < 2 and time.monotonic() < until:
             want(is_served(giving), "the node that gives isn't served")
             time.sleep(1)
