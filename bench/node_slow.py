@@ -131,13 +131,14 @@ def give_by_node(node, port, folder):
 def try_slow(asked, folder):
     node = Node(asked.program, folder / "a", TOKEN, names="abcde")
     node.told("edit", "a.rds", given=lines(ALL, 96))
-    with running(node), relayed(node.port) as port, concurrent.futures.ThreadPoolExecutor() as pool:
+    hub = Node(asked.program, folder / "hub", TOKEN, names="abcde")
+    with running(node), running(hub), relayed(hub.port) as port, concurrent.futures.ThreadPoolExecutor() as pool:
         trials = [
             pool.submit(say_much, node),
             pool.submit(say_little, node),
             pool.submit(read_slowly, node),
-            pool.submit(give_by_file, node, port, folder / "b"),
-            pool.submit(give_by_node, node, port, folder / "c"),
+            pool.submit(give_by_file, hub, port, folder / "b"),
+            pool.submit(give_by_node, hub, port, folder / "c"),
         ]
         for trial in trials:
             trial.result()
