@@ -110,7 +110,8 @@ def edited(program, folder, own):
 def give_by_file(node, port, folder):
     """A file gives much over a slow link."""
     given = edited(node.program, folder, "b")
-    words = [given.program, "sync", "a.rds", f"http://{HOST}:{port}", "--token-file", "token"]
+    # The system takes all of it at once, so the answer is waited for until it is through.
+    words = [given.program, "sync", "a.rds", f"http://{HOST}:{port}", "--token-file", "token", "--timeout", f"{MOST}"]
     ran = subprocess.run(words, cwd=given.folder, stdout=subprocess.PIPE, timeout=MOST)
     told = ran.returncode, ran.stdout
     want(told == (0, b'{"taken":0}\n'), f"a file that meets a node over a slow link is told {told}")
