@@ -1,18 +1,15 @@
 //! How long who is at the other end of a connection is waited for.
-ghost use Rattle.std.specs.Prelude.{◌≤◌, ◌+◌};
-ghost use Rattle.rds_site.specs.declared.patience.TheConstants.{MOST_MORE, PATIENCE};
-
 use crate::schedule::after;
 use std::time::{Duration, Instant};
 
 /// Within so many seconds a byte of what is sent has to go, and of what is awaited enough has to come.
-pub const PATIENCE: u64 = 30;
+const PATIENCE: u64 = 30;
 
 /// What the system has taken may still be on its way: so many bytes of it give a second more.
 const SLOWEST: u64 = 16_384;
 
 /// There are so many seconds more at most.
-pub const MOST_MORE: u64 = 270;
+const MOST_MORE: u64 = 270;
 
 /// Since when the other end lets wait, and how many bytes the system has taken for it since it was heard.
 #[derive(Clone, Copy, Debug)]
@@ -52,10 +49,7 @@ impl Wait {
     }
 
     /// How many seconds it may let wait.
-    pub fn seconds(&self) -> u64
-        ensures least { PATIENCE ≤ result }
-        ensures most { result ≤ PATIENCE + MOST_MORE }
-    {
+    pub fn seconds(&self) -> u64 {
         PATIENCE.saturating_add((self.taken / SLOWEST).min(MOST_MORE))
     }
 
