@@ -14,7 +14,7 @@ use Rattle.rds_dots.specs.Ascending.{is_above, ascends}
 use Rattle.rds_dots.specs.Dots.{IsRun, dot_cmp, is_dot, comes_after}
 use Rattle.rds_names.specs.Conditions.{and_true, and_left, and_right, less_of}
 use Rattle.rds_dots.specs.Order.{dots_total}
-use Rattle.rds_dots.specs.Sets.{same_dot}
+use Rattle.rds_dots.specs.Sets.{tied_dots_are_one}
 use Rattle.rds_dots.specs.declared.dot.Dot.{Dot}
 use Rattle.rds_dots.specs.declared.dot.Run.{Run}
 use Rattle.rds_dots.specs.declared.dot.TheConstants.{MAX_SEQ}
@@ -36,7 +36,7 @@ use Rattle.rds_delta.specs.Digested.{DigestValue, IsInside, digest_of, rank_in, 
 use Rattle.rds_delta.specs.Grouped.{dead_front, front, grouped_onto, run_of}
 use Rattle.rds_delta.specs.Higher.{higher_row, higher_rows}
 use Rattle.rds_delta.specs.Ranks.{life_rank}
-use Rattle.rds_delta.specs.Rest.{after_of, rows_after}
+use Rattle.rds_delta.specs.Rest.{after_of, claims_after}
 use Rattle.rds_delta.specs.declared.row.Row.{Row}
 use Rattle.rds_delta.specs.declared.row.Row.TheVariants as rows
 use Rattle.rds_delta.proofs.DeltaLemmas.{higher_are, number_above}
@@ -66,7 +66,7 @@ find_above d (r ∷ rs) all =
 
 module _ {X : Type 0} (Q : Dot → X → Type 0) where
   found_later : (d x : Dot) (a b : X) (more : Option X) (e : Bool) → eq_by_cmp dot_cmp d x ≡ e → more ≡ Some b → (d ≡ x → more ≡ None) → cond e (Some a) more ≡ Some b
-  found_later d x a b more true is found past = absurd (let bad : Some b ≡ None = sym found ∙ past (same_dot d x is) in cc)
+  found_later d x a b more true is found past = absurd (let bad : Some b ≡ None = sym found ∙ past (tied_dots_are_one d x is) in cc)
   found_later d x a b more false is found past = found
 
   -- each row of a list that rises is the one that is found at its dot
@@ -80,7 +80,7 @@ module _ {X : Type 0} (Q : Dot → X → Type 0) where
   )
 
   found_by : (d x : Dot) (a b : X) (more : Option X) (e : Bool) → eq_by_cmp dot_cmp d x ≡ e → cond e (Some a) more ≡ Some b → Q x a → (more ≡ Some b → Q d b) → Q d b
-  found_by d x a b more true is found one later = subst (λ (q : Dot). Q q b) (sym (same_dot d x is)) (subst (Q x) (let same : a ≡ b = cc found in same) one)
+  found_by d x a b more true is found one later = subst (λ (q : Dot). Q q b) (sym (tied_dots_are_one d x is)) (subst (Q x) (let same : a ≡ b = cc found in same) one)
   found_by d x a b more false is found one later = later found
 
   found_row : (rs : List (Dot × X)) → AllByRecursion (λ (r : Dot × X). Q r.0 r.1) rs → (d : Dot) (x : X) → map.find dot_cmp d rs ≡ Some x → Q d x
@@ -286,7 +286,7 @@ module _ (n : ℕ) (v : StateValue) (g : DigestValue) (h : IsStateOf n v) (k : I
       let delta = least_state v g in
       let rs = kept.counts.rows in
       let counters = counters_claimed n (number g.counts) rs (counts_within n g.counts k.counts) kept.counts.are_rows.are kept.counts.each_row in
-      let is : certificate_of g delta ≡ rows_after (rank_in g) delta.lives None (counter_rows (number g.counts) rs) = certificate_rows (ranks_in g) delta rs kept.counts.are_rows (sym kept.counts.value) in
+      let is : certificate_of g delta ≡ claims_after (rank_in g) delta.lives None (counter_rows (number g.counts) rs) = certificate_rows (ranks_in g) delta rs kept.counts.are_rows (sym kept.counts.value) in
       subst (IsCertificateOf n) (sym is) (lives_claimed n (rank_in g) (after_of None delta.lives) (counter_rows (number g.counts) rs) (filtered n (rank_in g) (λ e. comes_after None e.0) (map.entries delta.lives) lives_are) counters)
 
 -- an answer of a state with a text, against a digest with one, has one

@@ -9,8 +9,8 @@ use Rattle.rds_dots.specs.declared.dot.Run.{Run}
 use Rattle.rds_dots.specs.Dots.{Dots, in_run}
 use Rattle.rds_dots.specs.Lacking.{dot_of}
 use Rattle.rds_dots.specs.Order.{dots_total, dots_exact}
-use Rattle.rds_dots.specs.RunFacts.{Bounds, parts_of}
-use Rattle.rds_dots.specs.Runs.{AreRuns, covers, are_maximal, runs_of}
+use Rattle.rds_dots.specs.RunFacts.{Bounds, run_parts}
+use Rattle.rds_dots.specs.Runs.{AreRuns, runs_cover, are_maximal, runs_of}
 use Rattle.rds_dots.specs.RunsOf.{are_runs}
 use Rattle.rds_counts.specs.RowsOf.{count_rows}
 use Rattle.rds_delta.specs.Digested.{DigestValue, IsInside}
@@ -53,8 +53,8 @@ on_run v w r same d h =
     let is : dot_of r.replica d.seq ≡ d = (λ i. record { replica = sym whose i; seq = d.seq }) in
     ap (λ (x : Dot). set.contains v x) (sym is) ∙ same d.seq from (omega (arith, from, to)) ∙ ap (λ (x : Dot). set.contains w x) is
 
-on_runs : (v w : Dots) (r : Run) (rs : List Run) → AgreeOn (in_run r) v w → AgreeOn (covers rs) v w → AgreeOn (covers (r ∷ rs)) v w
-on_runs v w r rs first rest d h = elim (in_run r d) as (λ b. in_run r d ≡ b → (b || covers rs d) ≡ true → set.contains v d ≡ set.contains w d) [
+on_runs : (v w : Dots) (r : Run) (rs : List Run) → AgreeOn (in_run r) v w → AgreeOn (runs_cover rs) v w → AgreeOn (runs_cover (r ∷ rs)) v w
+on_runs v w r rs first rest d h = elim (in_run r d) as (λ b. in_run r d ≡ b → (b || runs_cover rs d) ≡ true → set.contains v d ≡ set.contains w d) [
   | true ↦ λ is _. first d is
   | false ↦ λ _ later. rest d later
 ] refl h
@@ -79,17 +79,17 @@ fronts v w rs ts x y e = packed_apart 6 (head rs) (head ts) (behind v rs x) (beh
 
 -- no text of runs begins another
 runs_apart : (v w : Dots) (rs ts : List Run) (x y : List ℕ) → are_maximal rs ≡ true → are_maximal ts ≡ true → runs_text v rs ++ x ≡ runs_text w ts ++ y
-    → ((rs ≡ ts) × AgreeOn (covers rs) v w) × (x ≡ y)
+    → ((rs ≡ ts) × AgreeOn (runs_cover rs) v w) × (x ≡ y)
 runs_apart v w [] [] x y maximal highest e = ((refl, λ d h. absurd (false≢true h)), (fronts v w [] [] x y e).1)
 runs_apart v w [] (t ∷ ts) x y maximal highest e =
     let none = (fronts v w [] (t ∷ ts) x y e).0 in
-    let one = (parts_of t ts highest).bounds.one in absurd (omega (arith, none, one))
+    let one = (run_parts t ts highest).bounds.one in absurd (omega (arith, none, one))
 runs_apart v w (r ∷ rs) [] x y maximal highest e =
     let none = (fronts v w (r ∷ rs) [] x y e).0 in
-    let one = (parts_of r rs maximal).bounds.one in absurd (omega (arith, none, one))
+    let one = (run_parts r rs maximal).bounds.one in absurd (omega (arith, none, one))
 runs_apart v w (r ∷ rs) (t ∷ ts) x y maximal highest e =
-    let p = parts_of r rs maximal in
-    let q = parts_of t ts highest in
+    let p = run_parts r rs maximal in
+    let q = run_parts t ts highest in
     let both = fronts v w (r ∷ rs) (t ∷ ts) x y e in
     let first = run_apart v w r t rs ts x y p.bounds q.bounds both.0 both.1 in
     let rest = runs_apart v w rs ts x y p.rest q.rest first.1 in
@@ -118,7 +118,7 @@ module _ (replicas : ℕ) where
 
   module _ (g h : DigestValue) (x y : List ℕ) (p : AreSets g) (q : AreSets h) (e : runs_text g.live (runs_of g.seen) ++ x ≡ runs_text h.live (runs_of h.seen) ++ y) where
     abbrev SameRuns : Type 0
-    SameRuns = (runs_of g.seen ≡ runs_of h.seen) × AgreeOn (covers (runs_of g.seen)) g.live h.live
+    SameRuns = (runs_of g.seen ≡ runs_of h.seen) × AgreeOn (runs_cover (runs_of g.seen)) g.live h.live
 
     both_runs : SameRuns × (x ≡ y)
     both_runs = runs_apart g.live h.live (runs_of g.seen) (runs_of h.seen) x y (runs g.seen p.dots).maximal (runs h.seen q.dots).maximal e
@@ -129,7 +129,7 @@ module _ (replicas : ℕ) where
     pub same_seen : g.seen ≡ h.seen
     same_seen =
         set.same_set dots_total dots_exact g.seen h.seen
-        (λ d. sym ((runs g.seen p.dots).same d) ∙ ap (λ (rs : List Run). covers rs d) both_runs.0.0 ∙ (runs h.seen q.dots).same d)
+        (λ d. sym ((runs g.seen p.dots).same d) ∙ ap (λ (rs : List Run). runs_cover rs d) both_runs.0.0 ∙ (runs h.seen q.dots).same d)
 
     one_live : (d : Dot) → set.contains g.live d ≡ set.contains h.live d
     one_live d = elim (set.contains g.seen d) as (λ b. set.contains g.seen d ≡ b → set.contains g.live d ≡ set.contains h.live d) [

@@ -10,8 +10,8 @@ use Rattle.rds_dots.specs.declared.dot.Dot.{Dot}
 use Rattle.rds_dots.specs.declared.dot.Run.{Run}
 use Rattle.rds_dots.specs.Dots.{Dots, in_run, first_of}
 use Rattle.rds_dots.specs.Order.{dots_total, dots_exact}
-use Rattle.rds_dots.specs.RunFacts.{parts_of}
-use Rattle.rds_dots.specs.Runs.{AreRuns, covers, are_maximal, runs_of}
+use Rattle.rds_dots.specs.RunFacts.{run_parts}
+use Rattle.rds_dots.specs.Runs.{AreRuns, runs_cover, are_maximal, runs_of}
 use Rattle.rds_dots.specs.RunsOf.{are_runs}
 use Rattle.rds_counts.specs.Counted.{Counted}
 use Rattle.rds_counts.specs.RowsOf.{count_rows}
@@ -51,12 +51,12 @@ module _ (replicas : ℕ) (bytes : List ℕ) (m : Counted) (rest : List ℕ) (ar
 in_first : (a r lo hi : ℕ) → a ≡ r → lo ≤ hi → (eqb a r && leb lo lo && leb lo hi) ≡ true
 in_first a r lo hi e le = grind (arith, nat_tests)
 
-all_below : (replicas : ℕ) (rs : List Run) → are_maximal rs ≡ true → ((d : Dot) → covers rs d ≡ true → d.replica < replicas) → AllByRecursion (λ (r : Run). r.replica < replicas) rs
+all_below : (replicas : ℕ) (rs : List Run) → are_maximal rs ≡ true → ((d : Dot) → runs_cover rs d ≡ true → d.replica < replicas) → AllByRecursion (λ (r : Run). r.replica < replicas) rs
 all_below replicas [] max each = tt
 all_below replicas (r ∷ rs) max each =
-    let p = parts_of r rs max in
+    let p = run_parts r rs max in
     let first : in_run r (first_of r) ≡ true = in_first r.replica r.replica r.lo r.hi refl p.bounds.rises in
-    (each (first_of r) (or_left _ _ first), all_below replicas rs p.rest (λ d h. each d (or_right (in_run r d) (covers rs d) h)))
+    (each (first_of r) (or_left _ _ first), all_below replicas rs p.rest (λ d h. each d (or_right (in_run r d) (runs_cover rs d) h)))
 
 module _ (replicas : ℕ) (g : DigestValue) (is : IsDigestOf replicas g) where
   runs : AreRuns g.seen (runs_of g.seen)

@@ -5,7 +5,7 @@ use Rattle.rds_names.specs.declared.fault.Fault.{Fault}
 use Rattle.rds_names.specs.declared.fault.Fault.TheVariants.{Memory, Cut}
 use Rattle.rds_feeds.specs.declared.unfinished.Progress.{Progress}
 use Rattle.rds_feeds.specs.declared.unfinished.Progress.TheVariants.{More, Whole}
-use Rattle.rds_feeds.specs.Pieces.{ReadsOn, Refuses}
+use Rattle.rds_feeds.specs.Pieces.{ReadsOn, RefusesAlready}
 use Rattle.rds_bytes.specs.Reading.{Reader, Fails}
 
 module _ {U V : Type 0} (finish : U → Reader V) (u : U) (bytes : List ℕ) where
@@ -16,7 +16,7 @@ module _ {U V : Type 0} (finish : U → Reader V) (u : U) (bytes : List ℕ) whe
   fails_with Memory r h = tt
   fails_with e r h = h
 
-  pub front_refused : (e : Fault) → Refuses (λ more. finish u (bytes ++ more)) e → Fails e (finish u bytes)
+  pub front_refused : (e : Fault) → RefusesAlready (λ more. finish u (bytes ++ more)) e → Fails e (finish u bytes)
   front_refused e h = elim h [
     | inl m ↦ subst (λ (x : Fault). Fails x (finish u bytes)) (sym m) tt
     | inr r ↦ fails_with e (finish u bytes) (sym at_end ∙ r.1 [])

@@ -10,8 +10,8 @@ use Rattle.rds_dots.specs.declared.dot.Run.{Run}
 use Rattle.rds_dots.specs.declared.dot.TheConstants.{MAX_SEQ}
 use Rattle.rds_dots.specs.Dots.{Dots, dot_cmp, in_run, comes_after}
 use Rattle.rds_dots.specs.Lacking.{dot_of}
-use Rattle.rds_dots.specs.RunFacts.{Bounds, parts_of, lt_of, lt_by}
-use Rattle.rds_dots.specs.Runs.{covers, place, start, stop, begins_past, are_maximal}
+use Rattle.rds_dots.specs.RunFacts.{Bounds, run_parts, lt_of, lt_by}
+use Rattle.rds_dots.specs.Runs.{runs_cover, dot_place, start, stop, begins_past, are_maximal}
 use Rattle.rds_bytes.specs.declared.packed.TheConstants.{MAX_PACKED}
 use Rattle.rds_bytes.specs.Packed.{packed_text, packed_text_up_to}
 use Rattle.rds_briefs.specs.Lives.{lives_in}
@@ -59,14 +59,14 @@ pub record AreRunsRead (replicas : ℕ) (all : List Run) (lives seen live : Dots
   pub bytes : rest ≡ runs_text lives left ++ end
   pub maximal : are_maximal left ≡ true
   pub each : AreOf replicas left
-  pub past : begins_past (place last.replica last.seq) left ≡ true
+  pub past : begins_past (dot_place last.replica last.seq) left ≡ true
   pub within : last.seq ≤ MAX_SEQ
-  pub each_seen : (d : Dot) → covers all d ≡ (set.contains seen d || covers left d)
+  pub each_seen : (d : Dot) → runs_cover all d ≡ (set.contains seen d || runs_cover left d)
   pub each_live : (d : Dot) → set.contains live d ≡ (set.contains seen d && set.contains lives d)
 
 none_before : (rs : List Run) → are_maximal rs ≡ true → begins_past 0 rs ≡ true
 none_before [] max = refl
-none_before (r ∷ rs) max = (let b = (parts_of r rs max).bounds in let one = b.one in lt_by 0 (start r) (omega arith))
+none_before (r ∷ rs) max = (let b = (run_parts r rs max).bounds in let one = b.one in lt_by 0 (start r) (omega arith))
 
 nothing : (s : Dots) → s ≡ set.empty → (d : Dot) → set.contains s d ≡ false
 nothing s none d = ap (λ (t : Dots). set.contains t d) none ∙ set.contains-empty dot_cmp d
@@ -80,13 +80,13 @@ runs_begin replicas all lives none empty bytes end first second max each is = re
   each = each;
   past = none_before all max;
   within = omega arith;
-  each_seen = λ d. sym (ap (λ b. b || covers all d) (nothing none first d));
+  each_seen = λ d. sym (ap (λ b. b || runs_cover all d) (nothing none first d));
   each_live = λ d. nothing empty second d ∙ sym (ap (λ b. b && set.contains lives d) (nothing none first d));
 }
 
 low : (rs : List Run) → are_maximal rs ≡ true → head rs ≤ MAX_PACKED
 low [] max = omega arith
-low (r ∷ rs) max = (let b = (parts_of r rs max).bounds in let rises = b.rises in let most = b.most in omega arith)
+low (r ∷ rs) max = (let b = (run_parts r rs max).bounds in let rises = b.rises in let most = b.most in omega arith)
 
 or_none : (a b : Bool) → a ≡ (b || false) → b ≡ a
 or_none a true h = sym h
@@ -140,7 +140,7 @@ pub record IsNextRead (replicas : ℕ) (all : List Run) (lives seen live : Dots)
   pub apart : begins_past (stop run + 1) rs ≡ true
   pub maximal : are_maximal rs ≡ true
   pub each : AreOf replicas rs
-  pub each_seen : (d : Dot) → covers all d ≡ (set.contains seen d || (in_run run d || covers rs d))
+  pub each_seen : (d : Dot) → runs_cover all d ≡ (set.contains seen d || (in_run run d || runs_cover rs d))
 
 module _ (replicas : ℕ) (all : List Run) (lives seen live : Dots) (rest end : List ℕ) (last : Dot) (is : AreRunsRead replicas all lives seen live rest end last) where
   pub first_packed : head is.left ≤ MAX_PACKED
@@ -153,22 +153,22 @@ module _ (replicas : ℕ) (all : List Run) (lives seen live : Dots) (rest end : 
   pub runs_end : (after : List ℕ) → 0 ≡ head is.left → after ≡ behind lives is.left end → (after ≡ end) × RunsAreRead all lives seen live
   runs_end after none behind_is = ended is.left is.maximal none behind_is is.each_seen
     where
-      ended : (left : List Run) → are_maximal left ≡ true → 0 ≡ head left → after ≡ behind lives left end → ((d : Dot) → covers all d ≡ (set.contains seen d || covers left d)) → (after ≡ end) × RunsAreRead all lives seen live
+      ended : (left : List Run) → are_maximal left ≡ true → 0 ≡ head left → after ≡ behind lives left end → ((d : Dot) → runs_cover all d ≡ (set.contains seen d || runs_cover left d)) → (after ≡ end) × RunsAreRead all lives seen live
       ended [] max e b s =
-          (b, record { each_seen = λ d. or_none (covers all d) (set.contains seen d) (s d); each_live = λ d. is.each_live d ∙ ap (λ x. x && set.contains lives d) (or_none (covers all d) (set.contains seen d) (s d)) })
-      ended (r ∷ rs) max e b s = (let one = (parts_of r rs max).bounds.one in absurd (omega arith))
+          (b, record { each_seen = λ d. or_none (runs_cover all d) (set.contains seen d) (s d); each_live = λ d. is.each_live d ∙ ap (λ x. x && set.contains lives d) (or_none (runs_cover all d) (set.contains seen d) (s d)) })
+      ended (r ∷ rs) max e b s = (let one = (run_parts r rs max).bounds.one in absurd (omega arith))
 
   pub one_more : (lo : ℕ) (after : List ℕ) → lo ≢ 0 → lo ≡ head is.left → after ≡ behind lives is.left end → IsNextRead replicas all lives seen live after end last lo
   one_more lo after some e b = opened is.left is.maximal is.each is.past e b is.each_seen
     where
-      opened : (left : List Run) → are_maximal left ≡ true → AreOf replicas left → begins_past (place last.replica last.seq) left ≡ true → lo ≡ head left → after ≡ behind lives left end → ((d : Dot) → covers all d ≡ (set.contains seen d || covers left d)) → IsNextRead replicas all lives seen live after end last lo
+      opened : (left : List Run) → are_maximal left ≡ true → AreOf replicas left → begins_past (dot_place last.replica last.seq) left ≡ true → lo ≡ head left → after ≡ behind lives left end → ((d : Dot) → runs_cover all d ≡ (set.contains seen d || runs_cover left d)) → IsNextRead replicas all lives seen live after end last lo
       opened [] max each past e b s = absurd (some e)
       opened (r ∷ rs) max each past e b s =
-          let p = parts_of r rs max in
+          let p = run_parts r rs max in
           let rises = p.bounds.rises in
           let most = p.bounds.most in
           let within = is.within in
-          let lt = lt_of (place last.replica last.seq) (start r) past in
+          let lt = lt_of (dot_place last.replica last.seq) (start r) past in
           record {
             run = r;
             rs = rs;
@@ -201,9 +201,9 @@ runs_go_on replicas all lives seen live seen' live' after rest end last lo repli
       bytes = bytes;
       maximal = next.maximal;
       each = next.each;
-      past = begins_sooner next.rs (place replica hi) (stop here + 1) (omega arith) (ap (λ n. begins_past n next.rs) stops ∙ next.apart);
+      past = begins_sooner next.rs (dot_place replica hi) (stop here + 1) (omega arith) (ap (λ n. begins_past n next.rs) stops ∙ next.apart);
       within = omega (arith, most, to);
-      each_seen = λ d. swapped (covers all d) (set.contains seen d) (in_run run d) (covers next.rs d) (next.each_seen d) ∙ ap (λ b. b || covers next.rs d) (sym (put d ∙ ap (λ (r : Run). in_run r d || set.contains seen d) same));
+      each_seen = λ d. swapped (runs_cover all d) (set.contains seen d) (in_run run d) (runs_cover next.rs d) (next.each_seen d) ∙ ap (λ b. b || runs_cover next.rs d) (sym (put d ∙ ap (λ (r : Run). in_run r d || set.contains seen d) same));
       each_live = λ d. (
           let among : is_in_stretch replica lo (hi + 1 - lo) d ≡ in_run here d = run_is d.replica d.seq replica lo hi (omega (arith, rises, begins, to)) in
           let mine : in_run here d ≡ true → lives_in lives run.replica d.seq ≡ set.contains lives d =
@@ -226,7 +226,7 @@ sooner : (a s r t : ℕ) → s ≤ 281474976710655 → is_lt (ordering_then (nat
 sooner a s r t p h = grind (arith, nat_tests)
 
 pub goes_up : (end first : Dot) (hi : ℕ) → end.seq ≤ MAX_SEQ → first.replica ≤ 255 → first.seq ≤ hi → hi ≤ MAX_SEQ → comes_after (Some end) first ≡ true
-    → 256 * 281474976710656 - place first.replica hi < 256 * 281474976710656 - place end.replica end.seq
+    → 256 * 281474976710656 - dot_place first.replica hi < 256 * 281474976710656 - dot_place end.replica end.seq
 goes_up end first hi within small rises most comes = (let lt = sooner end.replica end.seq first.replica first.seq within comes in omega arith)
 
 -- ---- parts of a step

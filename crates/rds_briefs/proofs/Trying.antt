@@ -14,7 +14,7 @@ use Rattle.rds_dots.specs.declared.dot.TheConstants.{MAX_SEQ}
 use Rattle.rds_dots.specs.Dots.{Dots, dot_cmp, is_dot}
 use Rattle.rds_dots.specs.Listed.{lists, dots_from}
 use Rattle.rds_dots.specs.Order.{dots_total, dots_exact}
-use Rattle.rds_dots.specs.Sets.{lists-dots_from, same_dot}
+use Rattle.rds_dots.specs.Sets.{lists-dots_from, tied_dots_are_one}
 use Rattle.rds_bytes.specs.Reading.{Reader}
 use Rattle.rds_bytes.proofs.Format.{err_is}
 use Rattle.rds_briefs.specs.ReadBriefs.{dots_up_to, or_else, with_some}
@@ -108,13 +108,13 @@ module _ {A : Type 0} (read : Dots → Reader A) (bytes : List ℕ) where
 
     one_more : (d : Dot) (s : Dots) → set.contains t d ≡ true → HasAll s → HasAll (set.insert s d)
     one_more d s is has q h = elim (eq_by_cmp dot_cmp q d) as (λ b. eq_by_cmp dot_cmp q d ≡ b → (b || set.contains s q) ≡ true → set.contains t q ≡ true) [
-      | true ↦ λ e _. ap (λ (x : Dot). set.contains t x) (same_dot q d e) ∙ is
+      | true ↦ λ e _. ap (λ (x : Dot). set.contains t x) (tied_dots_are_one q d e) ∙ is
       | false ↦ λ _ old. has q old
     ] refl (sym (set.contains-insert dots_total s d q) ∙ h)
 
     one_less : (d : Dot) (ds : List Dot) (s : Dots) → set.contains t d ≡ false → IsWithin (d ∷ ds) s → IsWithin ds s
     one_less d ds s none all q h = elim (eq_by_cmp dot_cmp q d) as (λ b. eq_by_cmp dot_cmp q d ≡ b → (set.contains s q || (b || lists ds q)) ≡ true → (set.contains s q || lists ds q) ≡ true) [
-      | true ↦ λ e _. absurd (false≢true (sym none ∙ ap (λ (x : Dot). set.contains t x) (sym (same_dot q d e)) ∙ h))
+      | true ↦ λ e _. absurd (false≢true (sym none ∙ ap (λ (x : Dot). set.contains t x) (sym (tied_dots_are_one q d e)) ∙ h))
       | false ↦ λ _ old. old
     ] refl (all q h)
 

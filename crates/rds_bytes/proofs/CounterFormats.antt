@@ -4,7 +4,7 @@ use Rattle.std.specs.List.{AllByRecursion}
 use Rattle.std.specs.Int.{w64, to_be_bytes}
 use Rattle.std.proofs.lemmas.Bool.{leb-true, ltb-true, lt-ltb}
 use Rattle.rds_counts.specs.declared.row.CountRow.{CountRow}
-use Rattle.rds_counts.specs.Counted.{Counted, counts_of, is_row, before_next, rows_fit, AreCountRows}
+use Rattle.rds_counts.specs.Counted.{Counted, counts_of, is_row, row_before_next, rows_fit, AreCountRows}
 use Rattle.rds_counts.specs.CountedLemmas.{fits_rows, rows_fit_of}
 use Rattle.rds_names.specs.Conditions.{and_true, and_left, and_right}
 use Rattle.rds_counts.specs.RowsOf.{count_rows}
@@ -72,7 +72,7 @@ abbrev pub follows : Option CountRow → List CountRow → Bool
 follows after [] = true
 follows after (r ∷ rows) = comes_after_row after r.key r.replica
 
-next_is : (r : CountRow) (rows : List CountRow) → follows (Some r) rows ≡ before_next r rows
+next_is : (r : CountRow) (rows : List CountRow) → follows (Some r) rows ≡ row_before_next r rows
 next_is r [] = refl
 next_is r (s ∷ rows) = refl
 
@@ -80,7 +80,7 @@ follows_none : (rows : List CountRow) → follows None rows ≡ true
 follows_none [] = refl
 follows_none (r ∷ rows) = refl
 
-next_pushed : (r : CountRow) (rows before : List CountRow) → follows (last (before ++ r ∷ [])) rows ≡ before_next r rows
+next_pushed : (r : CountRow) (rows before : List CountRow) → follows (last (before ++ r ∷ [])) rows ≡ row_before_next r rows
 next_pushed r rows before = ap (λ (o : Option CountRow). follows o rows) (last-push before r) ∙ next_is r rows
 
 abbrev IsReplicaOf : ℕ → CountRow → Type 0
@@ -100,7 +100,7 @@ module _ (replicas : ℕ) where
   rows_of [] before h = ((refl, refl), tt)
   rows_of (r ∷ rows) before h =
       let again = rows_of rows (before ++ r ∷ []) h.1 in
-      let next : before_next r rows ≡ true = sym (next_pushed r rows before) ∙ again.0.0 in
+      let next : row_before_next r rows ≡ true = sym (next_pushed r rows before) ∙ again.0.0 in
       let after = and_left (comes_after_row (last before) r.key r.replica) _ h.0.next in
       let below = ltb-true r.replica replicas (and_right (comes_after_row (last before) r.key r.replica) _ h.0.next) in
       ((after, and_true _ _ (and_true _ _ h.0.is next) again.0.1), (below, again.1))
@@ -108,9 +108,9 @@ module _ (replicas : ℕ) where
   of_rows : (rows before : List CountRow) → follows (last before) rows ≡ true → rows_fit rows ≡ true → AreBelow rows → AllAfter IsNext before rows
   of_rows [] before first fit each = tt
   of_rows (r ∷ rows) before first fit each =
-      let front = and_left (is_row r && before_next r rows) (rows_fit rows) fit in
+      let front = and_left (is_row r && row_before_next r rows) (rows_fit rows) fit in
       let next : follows (last (before ++ r ∷ [])) rows ≡ true = next_pushed r rows before ∙ and_right (is_row r) _ front in
-      (record { next = and_true _ _ first (lt-ltb r.replica replicas each.0); is = and_left (is_row r) _ front }, of_rows rows (before ++ r ∷ []) next (and_right (is_row r && before_next r rows) _ fit) each.1)
+      (record { next = and_true _ _ first (lt-ltb r.replica replicas each.0); is = and_left (is_row r) _ front }, of_rows rows (before ++ r ∷ []) next (and_right (is_row r && row_before_next r rows) _ fit) each.1)
 
   -- of texts, and of so many replicas
   of_both : (IsKey : List ℕ → Type 0) → ((k : List ℕ) → IsKey k → IsKeyText k) → (rows : List CountRow) → AllByRecursion (HasKey IsKey) rows → AreBelow rows → AreOf rows

@@ -16,7 +16,7 @@ use Rattle.rds_names.specs.declared.scalar.Scalar.TheVariants.{Null, Bool as Tru
 use Rattle.rds_names.specs.Conditions.{and_true, and_right}
 use Rattle.rds_names.specs.Entry.{entry_where}
 use Rattle.rds_names.proofs.Entries.{entry_of_parts}
-use Rattle.rds_bytes.specs.Entries.{Parts, parts_of, entry_of}
+use Rattle.rds_bytes.specs.Entries.{EntryTuple, tuple_of, entry_of_tuple}
 use Rattle.rds_bytes.specs.Spelling.{byte_text, kind_byte, text_text, scalar_text, keyed_path_text, keyed_entry_text}
 use Rattle.rds_bytes.specs.Reading as read
 use Rattle.rds_bytes.specs.Reading.{Reader, byte_at, made_at, when_at, is_between, tagged_at, int_scalar, text_scalar}
@@ -186,18 +186,18 @@ scalar_format = record { takes = scalar_takes; again = scalar_again; faults = sc
 abbrev pub IsPath : List (List ℕ) → Type 0
 IsPath keys = (is_between 1 8 (length keys) ≡ true) × (list_all is_key_text keys ≡ true)
 
-abbrev AreParts : Parts → Type 0
+abbrev AreParts : EntryTuple → Type 0
 AreParts p = IsPath p.0 × (Unit {0} × IsScalar p.1.1)
 
-entry_there : (e : Entry) → IsEntry e → AreParts (parts_of e) × (entry_of (parts_of e) ≡ Some e)
+entry_there : (e : Entry) → IsEntry e → AreParts (tuple_of e) × (entry_of_tuple (tuple_of e) ≡ Some e)
 entry_there e is = (((and_true _ _ (le-leb 1 (length e.path) e.below_root) (le-leb (length e.path) 8 e.within), is.0), (tt, is.1)), entry_of_parts _ _ _ e (record { at = refl; stands = refl; holds = refl }))
 
-parts_where : (p : Parts) (some few : Bool) (a : leb 1 (length p.0) ≡ some) (b : leb (length p.0) 8 ≡ few) (e : Entry) → entry_where p.0 p.1.0 p.1.1 some few a b ≡ Some e → parts_of e ≡ p
+parts_where : (p : EntryTuple) (some few : Bool) (a : leb 1 (length p.0) ≡ some) (b : leb (length p.0) 8 ≡ few) (e : Entry) → entry_where p.0 p.1.0 p.1.1 some few a b ≡ Some e → tuple_of e ≡ p
 parts_where p true true a b e is =
     let made : Entry = record { path = p.0; kind = p.1.0; value = p.1.1; below_root = leb-true 1 (length p.0) a; within = leb-true (length p.0) 8 b } in
     let some : ◌≡◌ {A = Option Entry} (Some made) (Some e) = is in
     let same : made ≡ e = ap (λ (o : Option Entry). or_made made o) some in
-    ap parts_of (sym same)
+    ap tuple_of (sym same)
   where
     or_made : Entry → Option Entry → Entry
     or_made m None = m
@@ -205,10 +205,10 @@ parts_where p true true a b e is =
 parts_where p true false a b e is = absurd cc
 parts_where p false few a b e is = absurd cc
 
-entry_back : (p : Parts) (e : Entry) → AreParts p → entry_of p ≡ Some e → IsEntry e × (parts_of e ≡ p)
+entry_back : (p : EntryTuple) (e : Entry) → AreParts p → entry_of_tuple p ≡ Some e → IsEntry e × (tuple_of e ≡ p)
 entry_back p e h is =
     let same = parts_where p _ _ refl refl e is in
-    ((ap (λ (q : Parts). list_all is_key_text q.0) same ∙ h.0.1, subst (λ (q : Parts). IsScalar q.1.1) (sym same) h.1.1), same)
+    ((ap (λ (q : EntryTuple). list_all is_key_text q.0) same ∙ h.0.1, subst (λ (q : EntryTuple). IsScalar q.1.1) (sym same) h.1.1), same)
 
 all_texts : (IsKey : List ℕ → Type 0) → ((k : List ℕ) → IsKey k → IsKeyText k) → (keys : List (List ℕ)) → AllByRecursion IsKey keys → list_all is_key_text keys ≡ true
 all_texts IsKey texts [] h = refl
@@ -229,14 +229,14 @@ of_each IsKey before (k ∷ keys) h = (h.0, of_each IsKey (before ++ k ∷ []) k
 abbrev pub IsEntryOf : (List ℕ → Type 0) → Entry → Type 0
 IsEntryOf IsKey e = IsEntry e × AllByRecursion IsKey e.path
 
-abbrev ArePartsOf : (List ℕ → Type 0) → Parts → Type 0
+abbrev ArePartsOf : (List ℕ → Type 0) → EntryTuple → Type 0
 ArePartsOf IsKey p = (IsPath p.0 × AllByRecursion IsKey p.0) × (Unit {0} × IsScalar p.1.1)
 
-entry_of_there : (IsKey : List ℕ → Type 0) (e : Entry) → IsEntryOf IsKey e → ArePartsOf IsKey (parts_of e) × (entry_of (parts_of e) ≡ Some e)
+entry_of_there : (IsKey : List ℕ → Type 0) (e : Entry) → IsEntryOf IsKey e → ArePartsOf IsKey (tuple_of e) × (entry_of_tuple (tuple_of e) ≡ Some e)
 entry_of_there IsKey e is = (let t = entry_there e is.0 in (((t.0.0, is.1), t.0.1), t.1))
 
-entry_of_back : (IsKey : List ℕ → Type 0) (p : Parts) (e : Entry) → ArePartsOf IsKey p → entry_of p ≡ Some e → IsEntryOf IsKey e × (parts_of e ≡ p)
-entry_of_back IsKey p e h is = (let b = entry_back p e (h.0.0, h.1) is in ((b.0, subst (λ (q : Parts). AllByRecursion IsKey q.0) (sym b.1) h.0.1), b.1))
+entry_of_back : (IsKey : List ℕ → Type 0) (p : EntryTuple) (e : Entry) → ArePartsOf IsKey p → entry_of_tuple p ≡ Some e → IsEntryOf IsKey e × (tuple_of e ≡ p)
+entry_of_back IsKey p e h is = (let b = entry_back p e (h.0.0, h.1) is in ((b.0, subst (λ (q : EntryTuple). AllByRecursion IsKey q.0) (sym b.1) h.0.1), b.1))
 
 module _ (key : Reader (List ℕ)) (key_text : List ℕ → List ℕ) (IsKey : List ℕ → Type 0) (are_texts : (k : List ℕ) → IsKey k → IsKeyText k) (key_is : IsFormat key key_text IsKey) where
   path_format : IsFormat (read.keyed_path_at key) (keyed_path_text key_text) (λ keys. IsPath keys × AllByRecursion IsKey keys)
@@ -250,5 +250,5 @@ module _ (key : Reader (List ℕ)) (key_text : List ℕ → List ℕ) (IsKey : L
   pub entry_format : IsFormat (read.keyed_entry_at key) (keyed_entry_text key_text) (IsEntryOf IsKey)
   unfolding read.keyed_entry_at
   entry_format =
-      drawn_format entry_of parts_of _ _ _ (IsEntryOf IsKey) (entry_of_there IsKey) (entry_of_back IsKey)
+      drawn_format entry_of_tuple tuple_of _ _ _ (IsEntryOf IsKey) (entry_of_there IsKey) (entry_of_back IsKey)
       (pair_format _ _ _ _ _ _ path_format (pair_format _ _ _ _ _ _ kind_format scalar_format))

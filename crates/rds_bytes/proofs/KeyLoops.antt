@@ -11,8 +11,9 @@ use Rattle.rds_names.specs.declared.fault.Fault.{Fault}
 use Rattle.rds_names.specs.declared.fault.Fault.TheVariants.{Bad}
 use Rattle.rds_bytes.specs.Reading.{Fails, key_at}
 use Rattle.rds_bytes.specs.Marks.{mark}
-use Rattle.rds_bytes.specs.Numbers.{place_in, key_cmp, marked_cmp}
-use Rattle.rds_bytes.specs.Table.{has_key, number_of}
+use Rattle.rds_bytes.specs.Numbers.{place_in, marked_cmp}
+use Rattle.rds_names.specs.Key.{key_cmp}
+use Rattle.rds_bytes.specs.Table.{has_key, table_number}
 use Rattle.rds_bytes.specs.TableTexts.{new_key_at}
 use Rattle.rds_bytes.proofs.Loops.{fails_on}
 use Rattle.rds_bytes.proofs.TableLaws.{has_turned, same_key}
@@ -56,8 +57,8 @@ pub is_placed : (keys : List (List ℕ)) (key : List ℕ) (number : Option ℕ) 
 is_placed keys key number b is some = sym (by (has_key keys key) refl) ∙ ap is_some (sym is) ∙ some
   where
     by : (h : Bool) → has_key keys key ≡ h → is_some (place_in keys key) ≡ has_key keys key
-    by true e = ap (λ t. is_some (cond t (Some (number_of keys key)) None)) e ∙ sym e
-    by false e = ap (λ t. is_some (cond t (Some (number_of keys key)) None)) e ∙ sym e
+    by true e = ap (λ t. is_some (cond t (Some (table_number keys key)) None)) e ∙ sym e
+    by false e = ap (λ t. is_some (cond t (Some (table_number keys key)) None)) e ∙ sym e
 
 -- ---- keys with their marks
 

@@ -7,7 +7,7 @@ use Rattle.rds_dots.specs.declared.dot.Dot.{Dot}
 use Rattle.rds_dots.specs.Dots.{Dots, is_dot, comes_after}
 use Rattle.rds_dots.specs.Sets.{dot_limits}
 use Rattle.rds_names.specs.Conditions.{and_true, and_left, and_right}
-use Rattle.rds_life.specs.Fits.{fits, before_next}
+use Rattle.rds_life.specs.Fits.{fits, dot_before_next}
 use Rattle.rds_life.specs.Life.{AreRows}
 use Rattle.rds_life.proofs.LivedLemmas.{fits_rows, rows_fit}
 use Rattle.rds_bytes.specs.Values.{is_key_text, IsKeyText, IsEntry, IsLiveRow, HasKeys}
@@ -50,7 +50,7 @@ abbrev pub follows : Option Dot → List (Dot × Entry) → Bool
 follows after [] = true
 follows after (row ∷ rows) = comes_after after row.0
 
-next_is : (d : Dot) (rows : List (Dot × Entry)) → follows (Some d) rows ≡ before_next d rows
+next_is : (d : Dot) (rows : List (Dot × Entry)) → follows (Some d) rows ≡ dot_before_next d rows
 next_is d [] = refl
 next_is d (row ∷ rows) = refl
 
@@ -62,7 +62,7 @@ dots_fit s [] before h = (refl, refl)
 dots_fit s (row ∷ rows) before h =
     let again = dots_fit s rows (before ++ row ∷ []) h.1 in
     let d = row.0 in
-    let next : before_next d rows ≡ true = sym (next_is d rows) ∙ ap (λ (o : Option (Dot × Entry)). follows (dot_of_row o) rows) (sym (last-push before row)) ∙ again.0 in
+    let next : dot_before_next d rows ≡ true = sym (next_is d rows) ∙ ap (λ (o : Option (Dot × Entry)). follows (dot_of_row o) rows) (sym (last-push before row)) ∙ again.0 in
     (and_left (comes_after (dot_of_row (last before)) d) _ h.0, and_true _ _ (and_true _ _ (and_right (comes_after (dot_of_row (last before)) d) _ h.0) next) again.1)
 
 rows_of : (s : Dots) (rows : List (Dot × Entry)) → AllAfter (IsRowAfter s) [] rows → AreLive s rows
@@ -74,10 +74,10 @@ of_rows : (s : Dots) (rows before : List (Dot × Entry)) → follows (dot_of_row
 of_rows s [] before first fit each = tt
 of_rows s (row ∷ rows) before first fit each =
     let d = row.0 in
-    let front = and_left (set.contains s d && before_next d rows) (fits (set.contains s) rows) fit in
+    let front = and_left (set.contains s d && dot_before_next d rows) (fits (set.contains s) rows) fit in
     let next : follows (dot_of_row (last (before ++ row ∷ []))) rows ≡ true =
     ap (λ (o : Option (Dot × Entry)). follows (dot_of_row o) rows) (last-push before row) ∙ next_is d rows ∙ and_right (set.contains s d) _ front in
-    ((and_true _ _ first (and_left (set.contains s d) _ front), each.0), of_rows s rows (before ++ row ∷ []) next (and_right (set.contains s d && before_next d rows) _ fit) each.1)
+    ((and_true _ _ first (and_left (set.contains s d) _ front), each.0), of_rows s rows (before ++ row ∷ []) next (and_right (set.contains s d && dot_before_next d rows) _ fit) each.1)
 
 follows_none : (rows : List (Dot × Entry)) → follows None rows ≡ true
 follows_none [] = refl

@@ -4,7 +4,7 @@ use Rattle.std.specs.Prelude.{fold}
 use Rattle.std.proofs.lemmas.List.Concat.{flat_map-cons}
 use Rattle.rds_names.specs.declared.entry.Entry.{Entry}
 use Rattle.rds_dots.specs.declared.dot.Dot.{Dot}
-use Rattle.rds_bytes.specs.Table.{live_keys, has_key, add_key, number_of, table_of}
+use Rattle.rds_bytes.specs.Table.{live_keys, has_key, add_key, table_number, table_of}
 use Rattle.rds_bytes.specs.Numbers.{numbers_from}
 use Rattle.rds_bytes.proofs.TableLaws.{number_after_add, number_kept, add_has, add_keeps}
 
@@ -14,16 +14,16 @@ fold_append t (x ∷ xs) ys = fold_append (add_key t x) xs ys
 
 numbers_append : (t xs ys : List (List ℕ)) → numbers_from t (xs ++ ys) ≡ numbers_from t xs ++ numbers_from (fold add_key t xs) ys
 numbers_append t [] ys = refl
-numbers_append t (x ∷ xs) ys = ap (λ ns. number_of t x ∷ ns) (numbers_append (add_key t x) xs ys)
+numbers_append t (x ∷ xs) ys = ap (λ ns. table_number t x ∷ ns) (numbers_append (add_key t x) xs ys)
 
 -- ---- a step of a loop
 
 pub one_folded : (a t total : List (List ℕ)) (k : List ℕ) (keys : List (List ℕ)) → fold add_key t (k ∷ keys) ≡ total → a ≡ add_key t k → fold add_key a keys ≡ total
 one_folded a t total k keys so_far is = ap (λ (x : List (List ℕ)). fold add_key x keys) is ∙ so_far
 
-pub one_numbered : (a t : List (List ℕ)) (ms ns total : List ℕ) (k : List ℕ) (keys : List (List ℕ)) → ns ++ numbers_from t (k ∷ keys) ≡ total → a ≡ add_key t k → ms ≡ ns ++ number_of t k ∷ [] → ms ++ numbers_from a keys ≡ total
+pub one_numbered : (a t : List (List ℕ)) (ms ns total : List ℕ) (k : List ℕ) (keys : List (List ℕ)) → ns ++ numbers_from t (k ∷ keys) ≡ total → a ≡ add_key t k → ms ≡ ns ++ table_number t k ∷ [] → ms ++ numbers_from a keys ≡ total
 one_numbered a t ms ns total k keys so_far is more =
-    (λ i. more i ++ numbers_from (is i) keys) ∙ append_assoc ns (number_of t k ∷ []) (numbers_from (add_key t k) keys) ∙ so_far
+    (λ i. more i ++ numbers_from (is i) keys) ∙ append_assoc ns (table_number t k ∷ []) (numbers_from (add_key t k) keys) ∙ so_far
 
 pub paths_more : (row : Dot × Entry) (rows : List (Dot × Entry)) → live_keys (row ∷ rows) ≡ row.1.path ++ live_keys rows
 paths_more row rows = flat_map-cons (λ (r : Dot × Entry). r.1.path) row rows
@@ -39,11 +39,11 @@ row_numbered a t ms ns total row rows so_far is more =
 
 -- ---- all of it
 
-kept : (keys t : List (List ℕ)) (k : List ℕ) → has_key t k ≡ true → number_of (fold add_key t keys) k ≡ number_of t k
+kept : (keys t : List (List ℕ)) (k : List ℕ) → has_key t k ≡ true → table_number (fold add_key t keys) k ≡ table_number t k
 kept [] t k h = refl
 kept (j ∷ keys) t k h = kept keys (add_key t j) k (add_keeps t j k h) ∙ number_kept t j k h
 
-numbers_are : (keys t : List (List ℕ)) → numbers_from t keys ≡ each (number_of (fold add_key t keys)) keys
+numbers_are : (keys t : List (List ℕ)) → numbers_from t keys ≡ each (table_number (fold add_key t keys)) keys
 numbers_are [] t = refl
 numbers_are (k ∷ keys) t =
     let first = sym (number_after_add t k) ∙ sym (kept keys (add_key t k) k (add_has t k)) in
@@ -54,6 +54,6 @@ module _ (xs ys one two : List (List ℕ)) (ns ms : List ℕ) (p : one ≡ fold 
   unfolding table_of
   both_keys = q ∙ ap (λ (t : List (List ℕ)). fold add_key t ys) p ∙ sym (fold_append [] xs ys)
 
-  pub both_numbers : ns ≡ numbers_from [] xs → ms ≡ ns ++ numbers_from one ys → ms ≡ each (number_of (table_of (xs ++ ys))) (xs ++ ys)
+  pub both_numbers : ns ≡ numbers_from [] xs → ms ≡ ns ++ numbers_from one ys → ms ≡ each (table_number (table_of (xs ++ ys))) (xs ++ ys)
   unfolding table_of
   both_numbers r s = s ∙ (λ i. r i ++ numbers_from (p i) ys) ∙ sym (numbers_append [] xs ys) ∙ numbers_are (xs ++ ys) []

@@ -9,9 +9,9 @@ use Rattle.rds_counts.specs.declared.row.CountRow.{CountRow}
 use Rattle.rds_counts.specs.Counted.{Counted}
 use Rattle.rds_counts.specs.RowsOf.{count_rows}
 use Rattle.rds_bytes.specs.Spelling.{byte_text, kind_byte, scalar_text, dot_text, keyed_live_row_text, keyed_live_rows_text, keyed_count_row_text, keyed_count_rows_text, keyed_counters_text}
-use Rattle.rds_bytes.specs.Table.{table_of, number_of, live_keys, counter_keys, used_keys}
+use Rattle.rds_bytes.specs.Table.{table_of, table_number, live_keys, counter_keys, used_keys}
 use Rattle.rds_bytes.specs.TableTexts.{number_text}
-use Rattle.rds_bytes.specs.Numbers.{numbers_text, numbered_row_text, numbered_rows_text, numbered_counts_text, keys_in, numbered_length}
+use Rattle.rds_bytes.specs.Numbers.{numbers_text, numbered_row_text, numbered_rows_text, numbered_counts_text, count_of_keys, numbered_length}
 use Rattle.rds_bytes.proofs.NumberLaws.{paths_more}
 
 each_append : (f : List ℕ → ℕ) (xs ys : List (List ℕ)) → each f (xs ++ ys) ≡ each f xs ++ each f ys
@@ -26,16 +26,16 @@ drop_each : (f : List ℕ → ℕ) (xs ys : List (List ℕ)) → drop (length xs
 drop_each f [] ys = refl
 drop_each f (x ∷ xs) ys = drop_each f xs ys
 
-numbers_spelled : (table keys : List (List ℕ)) → numbers_text (each (number_of table) keys) ≡ flat_map (number_text table) keys
+numbers_spelled : (table keys : List (List ℕ)) → numbers_text (each (table_number table) keys) ≡ flat_map (number_text table) keys
 numbers_spelled table [] = refl
 numbers_spelled table (k ∷ keys) =
-    flat_map-cons (to_be_bytes w32) (number_of table k) (each (number_of table) keys)
+    flat_map-cons (to_be_bytes w32) (table_number table k) (each (table_number table) keys)
     ∙ ap (λ (t : List ℕ). number_text table k ++ t) (numbers_spelled table keys)
     ∙ sym (flat_map-cons (number_text table) k keys)
 
 module _ (table : List (List ℕ)) where
   abbrev f : List ℕ → ℕ
-  f = number_of table
+  f = table_number table
 
   regrouped : (row : Dot × Entry) (rows : List (Dot × Entry)) (more : List (List ℕ)) → live_keys (row ∷ rows) ++ more ≡ row.1.path ++ (live_keys rows ++ more)
   regrouped row rows more = ap (λ (t : List (List ℕ)). t ++ more) (paths_more row rows) ∙ append_assoc row.1.path (live_keys rows) more
@@ -57,18 +57,18 @@ module _ (table : List (List ℕ)) where
   counts_spelled [] = refl
   counts_spelled (r ∷ counts) = ap (λ (t : List ℕ). keyed_count_row_text (number_text table) r ++ t) (counts_spelled counts) ∙ sym (flat_map-cons (keyed_count_row_text (number_text table)) r counts)
 
-  keys_counted : (rows : List (Dot × Entry)) → keys_in rows ≡ length (live_keys rows)
+  keys_counted : (rows : List (Dot × Entry)) → count_of_keys rows ≡ length (live_keys rows)
   keys_counted [] = refl
   keys_counted (row ∷ rows) = (λ i. length row.1.path + keys_counted rows i) ∙ sym (length-append row.1.path (live_keys rows)) ∙ sym (ap length (paths_more row rows))
 
-  pub numbers_left : (rows : List (Dot × Entry)) (more : List (List ℕ)) → drop (keys_in rows) (each f (live_keys rows ++ more)) ≡ each f more
+  pub numbers_left : (rows : List (Dot × Entry)) (more : List (List ℕ)) → drop (count_of_keys rows) (each f (live_keys rows ++ more)) ≡ each f more
   numbers_left rows more = ap (λ n. drop n (each f (live_keys rows ++ more))) (keys_counted rows) ∙ drop_each f (live_keys rows) more
 
   length_each : (keys : List (List ℕ)) → length (each f keys) ≡ length keys
   length_each [] = refl
   length_each (k ∷ keys) = ap suc (length_each keys)
 
-  pub numbers_enough : (rows : List (Dot × Entry)) (more : List (List ℕ)) → keys_in rows ≤ length (each f (live_keys rows ++ more))
+  pub numbers_enough : (rows : List (Dot × Entry)) (more : List (List ℕ)) → count_of_keys rows ≤ length (each f (live_keys rows ++ more))
   numbers_enough rows more = let a = length_each (live_keys rows ++ more) in let b = length-append (live_keys rows) more in let c = keys_counted rows in omega (arith, a, b, c)
 
   pub counts_enough : (counts : List CountRow) → length counts ≤ length (each f (counter_keys counts))
@@ -107,27 +107,27 @@ module _ (table : List (List ℕ)) where
 
 -- ---- rows and counters with the numbers of their own table
 
-module _ (rows : List (Dot × Entry)) (counts : List CountRow) (numbers : List ℕ) (are : numbers ≡ each (number_of (table_of (used_keys rows counts))) (used_keys rows counts)) where
+module _ (rows : List (Dot × Entry)) (counts : List CountRow) (numbers : List ℕ) (are : numbers ≡ each (table_number (table_of (used_keys rows counts))) (used_keys rows counts)) where
   abbrev own : List (List ℕ)
   own = table_of (used_keys rows counts)
 
-  pub own_enough : keys_in rows ≤ length numbers
+  pub own_enough : count_of_keys rows ≤ length numbers
   own_enough = rw are (numbers_enough own rows (counter_keys counts))
 
-  pub own_left : drop (keys_in rows) numbers ≡ each (number_of own) (counter_keys counts)
-  own_left = ap (drop (keys_in rows)) are ∙ numbers_left own rows (counter_keys counts)
+  pub own_left : drop (count_of_keys rows) numbers ≡ each (table_number own) (counter_keys counts)
+  own_left = ap (drop (count_of_keys rows)) are ∙ numbers_left own rows (counter_keys counts)
 
   pub own_rows : numbered_rows_text rows numbers ≡ flat_map (keyed_live_row_text (number_text own)) rows
   own_rows = ap (numbered_rows_text rows) are ∙ rows_spelled own rows (counter_keys counts)
 
-  pub own_counts : (left : List ℕ) → left ≡ drop (keys_in rows) numbers → numbered_counts_text counts left ≡ flat_map (keyed_count_row_text (number_text own)) counts
+  pub own_counts : (left : List ℕ) → left ≡ drop (count_of_keys rows) numbers → numbered_counts_text counts left ≡ flat_map (keyed_count_row_text (number_text own)) counts
   own_counts left is = ap (numbered_counts_text counts) (is ∙ own_left) ∙ counts_spelled own counts
 
-  pub left_enough : (left : List ℕ) → left ≡ drop (keys_in rows) numbers → length counts ≤ length left
+  pub left_enough : (left : List ℕ) → left ≡ drop (count_of_keys rows) numbers → length counts ≤ length left
   left_enough left is = rw (is ∙ own_left) (counts_enough own counts)
 
   -- what was added, part after part
-  pub all_added : (a b c d e left : List ℕ) → left ≡ drop (keys_in rows) numbers → b ≡ a ++ to_be_bytes w32 (length rows) → c ≡ b ++ numbered_rows_text rows numbers → d ≡ c ++ to_be_bytes w32 (length counts) → e ≡ d ++ numbered_counts_text counts left
+  pub all_added : (a b c d e left : List ℕ) → left ≡ drop (count_of_keys rows) numbers → b ≡ a ++ to_be_bytes w32 (length rows) → c ≡ b ++ numbered_rows_text rows numbers → d ≡ c ++ to_be_bytes w32 (length counts) → e ≡ d ++ numbered_counts_text counts left
       → e ≡ a ++ (keyed_live_rows_text (number_text own) rows ++ keyed_count_rows_text (number_text own) counts)
   all_added a b c d e left is p q r s =
       let n = to_be_bytes w32 (length rows) in

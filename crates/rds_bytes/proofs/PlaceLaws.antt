@@ -16,13 +16,13 @@ use Rattle.rds_bytes.specs.declared.places.KeyPlaces.{KeyPlaces}
 use Rattle.rds_bytes.specs.declared.places.Place.{Place}
 use Rattle.rds_bytes.specs.Marks.{mark}
 use Rattle.rds_bytes.specs.Numbers.{place_in, marked_cmp}
-use Rattle.rds_bytes.specs.Places.{is_key, stands_at, tag, placed, number_at, told_at, seek, has_room, but_last, pushed, bucket_of, elsewhere, AreFound}
-use Rattle.rds_bytes.specs.Table.{has_key, add_key, number_of}
+use Rattle.rds_bytes.specs.Places.{is_known_key, stands_at, tag, placed, number_at, told_at, seek, has_room, but_last, pushed, bucket_of, elsewhere, AreFound}
+use Rattle.rds_bytes.specs.Table.{has_key, add_key, table_number}
 use Rattle.rds_bytes.proofs.KeyLoops.{pair_cmp, ties}
 use Rattle.rds_bytes.proofs.TableLaws.{no_some, same_key, is_same, has_at, has_push, differ_push, number_at_place, number_push, number_last, number_none, below_length, get_last, take_push, not_taken}
 
-place_where : (b : Bool) (keys : List (List ℕ)) (q : List ℕ) → has_key keys q ≡ b → place_in keys q ≡ cond b (Some (number_of keys q)) None
-place_where b keys q e = ap (λ t. cond t (Some (number_of keys q)) None) e
+place_where : (b : Bool) (keys : List (List ℕ)) (q : List ℕ) → has_key keys q ≡ b → place_in keys q ≡ cond b (Some (table_number keys q)) None
+place_where b keys q e = ap (λ t. cond t (Some (table_number keys q)) None) e
 
 -- ---- a bucket
 
@@ -32,7 +32,7 @@ AreBelow bound bucket = AllByRecursion (λ place. place.number ≤ bound) bucket
 stands_has : (keys : List (List ℕ)) (n : ℕ) (q : List ℕ) → stands_at keys n q ≡ true → has_key keys q ≡ true
 stands_has keys n q is = by (slice_get keys n) refl is
   where
-    by : (o : Option (List ℕ)) → slice_get keys n ≡ o → is_key o q ≡ true → has_key keys q ≡ true
+    by : (o : Option (List ℕ)) → slice_get keys n ≡ o → is_known_key o q ≡ true → has_key keys q ≡ true
     by None at none = absurd (false≢true none)
     by (Some k) at same = subst (λ (y : List ℕ). has_key keys y ≡ true) (sym (same_key q k same)) (has_at keys n k at)
 
@@ -74,7 +74,7 @@ number_stays : (keys : List (List ℕ)) (key : List ℕ) (n : ℕ) (q : List ℕ
 number_stays keys key zero q le = refl
 number_stays keys key (suc n) q le =
     let within : n < length keys = omega arith in
-    ap (λ o. cond (is_key o q) (Some n) None) (get_before keys key n within)
+    ap (λ o. cond (is_known_key o q) (Some n) None) (get_before keys key n within)
 
 seek_push : (keys : List (List ℕ)) (key : List ℕ) (bucket : List Place) (t : ℕ) (q : List ℕ) → AreBelow (length keys) bucket → seek (keys ++ key ∷ []) bucket t q ≡ seek keys bucket t q
 seek_push keys key [] t q below = refl
@@ -139,7 +139,7 @@ module _ (keys : List (List ℕ)) (key : List ℕ) (new : has_key keys key ≡ f
   longer = length_push keys key
 
   stands_last : (q : List ℕ) → stands_at (keys ++ key ∷ []) (length keys) q ≡ bytes_eq q key
-  stands_last q = ap (λ o. is_key o q) (get_last keys key)
+  stands_last q = ap (λ o. is_known_key o q) (get_last keys key)
 
   -- its place tells its number, and nothing of other keys
   told_new : (q : List ℕ) → told_at (keys ++ key ∷ []) (placed (mark key) (length keys)) (tag (mark q)) q ≡ cond (bytes_eq q key) (Some (length keys)) None
@@ -281,11 +281,11 @@ next_is_new keys n key differ at = (let number = number_at_place keys n key diff
 pub so_many : (keys : List (List ℕ)) (n : ℕ) (key : List ℕ) → slice_get keys n ≡ Some key → n ≡ length (take n keys)
 so_many keys n key at = (let within = below_length keys n key at in let few = length-take n keys in omega arith)
 
-pub its_number : (keys : List (List ℕ)) (key : List ℕ) (n : ℕ) → place_in keys key ≡ Some n → n ≡ number_of keys key
+pub its_number : (keys : List (List ℕ)) (key : List ℕ) (n : ℕ) → place_in keys key ≡ Some n → n ≡ table_number keys key
 its_number keys key n placed = by (has_key keys key) refl
   where
-    by : (b : Bool) → has_key keys key ≡ b → n ≡ number_of keys key
-    by true e = (let both : Some (number_of keys key) ≡ Some n = sym (place_where true keys key e) ∙ placed in cc)
+    by : (b : Bool) → has_key keys key ≡ b → n ≡ table_number keys key
+    by true e = (let both : Some (table_number keys key) ≡ Some n = sym (place_where true keys key e) ∙ placed in cc)
     by false e = no_some n (sym (place_where false keys key e) ∙ placed)
 
 -- a key that the table has leaves it as it is
@@ -296,7 +296,7 @@ old_stays keys key had = sym (ap (λ b. cond b keys (keys ++ key ∷ [])) had)
 pub at_stays : (keys : List (List ℕ)) (n : ℕ) (key : List ℕ) → slice_get keys n ≡ Some key → keys ≡ add_key keys key
 at_stays keys n key at = old_stays keys key (has_at keys n key at)
 
-pub at_number : (places : KeyPlaces) (keys : List (List ℕ)) (n : ℕ) (key : List ℕ) → AreFound places keys → slice_get keys n ≡ Some key → n ≡ number_of keys key
+pub at_number : (places : KeyPlaces) (keys : List (List ℕ)) (n : ℕ) (key : List ℕ) → AreFound places keys → slice_get keys n ≡ Some key → n ≡ table_number keys key
 at_number places keys n key are at = sym (number_at_place keys n key are.differ at)
 
 -- a new key is the last of the table

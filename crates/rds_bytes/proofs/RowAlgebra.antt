@@ -5,8 +5,8 @@ use Rattle.std.proofs.lemmas.Bool.{cases_lt, lt-ltb, le-ltb, eq-eqb}
 use Rattle.std.proofs.lemmas.Bool.Decides.{eqb_tells}
 use Rattle.std.proofs.lemmas.List.Concat.{flat_map-cons}
 use Rattle.rds_dots.specs.declared.dot.Run.{Run}
-use Rattle.rds_dots.specs.Runs.{place, start, stop, begins_past, are_maximal}
-use Rattle.rds_dots.specs.RunFacts.{Bounds, parts_of, maximal_by, lt_of, lt_by}
+use Rattle.rds_dots.specs.Runs.{dot_place, start, stop, begins_past, are_maximal}
+use Rattle.rds_dots.specs.RunFacts.{Bounds, run_parts, maximal_by, lt_of, lt_by}
 use Rattle.rds_bytes.specs.declared.dots.Gap.{Gap}
 use Rattle.rds_bytes.specs.declared.dots.DotRow.{DotRow}
 use Rattle.rds_bytes.specs.DotRows.{a_gap, gap_before, gaps_in, top_in, row_in, rows_from}
@@ -58,18 +58,18 @@ rows_open least r rs le = let t = le-ltb r.replica least le in rw t refl
 
 pub record Opens (ρ from : ℕ) (rs : List Run) : Type 0 where
   pub maximal : are_maximal rs ≡ true
-  pub begins : (n : ℕ) → n < place ρ from → begins_past n rs ≡ true
+  pub begins : (n : ℕ) → n < dot_place ρ from → begins_past n rs ≡ true
 
 run_bounds : (ρ lo hi : ℕ) → ρ ≤ 255 → 1 ≤ lo → lo ≤ hi → hi ≤ 281474976710655 → Bounds (a_run ρ lo hi)
 run_bounds ρ lo hi p q r s = record { small = p; one = q; rises = r; most = s }
 
-one_opens : (ρ lo hi : ℕ) (rs : List Run) → ρ ≤ 255 → 1 ≤ lo → lo ≤ hi → hi ≤ 281474976710655 → are_maximal rs ≡ true → begins_past (place ρ hi + 1) rs ≡ true → Opens ρ lo (a_run ρ lo hi ∷ rs)
+one_opens : (ρ lo hi : ℕ) (rs : List Run) → ρ ≤ 255 → 1 ≤ lo → lo ≤ hi → hi ≤ 281474976710655 → are_maximal rs ≡ true → begins_past (dot_place ρ hi + 1) rs ≡ true → Opens ρ lo (a_run ρ lo hi ∷ rs)
 one_opens ρ lo hi rs p q r s max begins = record {
   maximal = maximal_by (a_run ρ lo hi) rs (run_bounds ρ lo hi p q r s) begins max;
-  begins = λ n lt. lt_by n (place ρ lo) lt;
+  begins = λ n lt. lt_by n (dot_place ρ lo) lt;
 }
 
-pub between_opens : (ρ top : ℕ) (more : List Run) → ρ ≤ 255 → top ≤ 281474976710655 → are_maximal more ≡ true → begins_past (place ρ top + 1) more ≡ true
+pub between_opens : (ρ top : ℕ) (more : List Run) → ρ ≤ 255 → top ≤ 281474976710655 → are_maximal more ≡ true → begins_past (dot_place ρ top + 1) more ≡ true
     → (gs : List Gap) (from least : ℕ) → 1 ≤ from → from ≤ least → from ≤ top → GapsStand least top gs → Opens ρ from (runs_between ρ from top gs ++ more)
 between_opens ρ top more p q max begins [] from least one le low stand = one_opens ρ from top more p one low q max begins
 between_opens ρ top more p q max begins (g ∷ gs) from least one le low stand =
@@ -80,7 +80,7 @@ between_opens ρ top more p q max begins (g ∷ gs) from least one le low stand 
     let rest : List Run = runs_between ρ (g.hi + 1) top gs ++ more in
     elim (cases_lt from g.lo) [
       | inl lt ↦ (
-          let made = one_opens ρ from (g.lo - 1) rest p one (omega arith) (omega arith) later.maximal (later.begins (place ρ (g.lo - 1) + 1) (omega arith)) in
+          let made = one_opens ρ from (g.lo - 1) rest p one (omega arith) (omega arith) later.maximal (later.begins (dot_place ρ (g.lo - 1) + 1) (omega arith)) in
           subst (λ (rs : List Run). Opens ρ from (rs ++ more)) (sym (before_some ρ from g.lo (runs_between ρ (g.hi + 1) top gs) lt)) made)
       | inr ge ↦ (
           let made : Opens ρ from rest = record { maximal = later.maximal; begins = λ n h. later.begins n (omega arith) } in
@@ -96,7 +96,7 @@ rows_opens numbers few (r ∷ rows) least stand =
     let number = row.0 in
     let later = rows_opens numbers few rows (r.replica + 1) stand.1 in
     let top = row.1.1.0 in
-    let made = between_opens r.replica r.top (flat_map row_runs rows) (omega arith) top later.maximal (later.begins (place r.replica r.top + 1) (omega arith)) r.gaps 1 1 (omega arith) (omega arith) row.1.0 row.1.1.1 in
+    let made = between_opens r.replica r.top (flat_map row_runs rows) (omega arith) top later.maximal (later.begins (dot_place r.replica r.top + 1) (omega arith)) r.gaps 1 1 (omega arith) (omega arith) row.1.0 row.1.1.1 in
     let all : Opens least 1 (row_runs r ++ flat_map row_runs rows) = record { maximal = made.maximal; begins = λ n h. made.begins n (omega arith) } in
     subst (λ (rs : List Run). Opens least 1 rs) (sym (flat_map-cons row_runs r rows)) all
 
@@ -262,9 +262,9 @@ runs_again : (r : Run) (rs : List Run) → are_maximal (r ∷ rs) ≡ true → r
 runs_again r [] max = refl
 runs_again r (t ∷ ts) max =
     let ρ = r.replica in
-    let p = parts_of r (t ∷ ts) max in
+    let p = run_parts r (t ∷ ts) max in
     let b = p.bounds in
-    let c = (parts_of t ts p.rest).bounds in
+    let c = (run_parts t ts p.rest).bounds in
     let most = b.most in
     let t-one = c.one in
     let t-rises = c.rises in
@@ -309,7 +309,7 @@ pub runs_back : (rs : List Run) → are_maximal rs ≡ true → flat_map row_run
 runs_back [] max = refl
 runs_back (r ∷ rs) max =
     let ρ = r.replica in
-    let b = (parts_of r rs max).bounds in
+    let b = (run_parts r rs max).bounds in
     let top = top_in ρ r.hi rs in
     let gs = gaps_in ρ (r.hi + 1) rs in
     ap (λ (x : List DotRow). flat_map row_runs x) (rows_open 0 r rs (omega arith))
@@ -325,12 +325,12 @@ record Tops (ρ hi top : ℕ) : Type 0 where
   most : top ≤ 281474976710655
 
 tops_of : (r : Run) (rs : List Run) → are_maximal (r ∷ rs) ≡ true → Tops r.replica r.hi (top_in r.replica r.hi rs)
-tops_of r [] max = (let b = (parts_of r [] max).bounds in record { low = omega arith; most = b.most })
+tops_of r [] max = (let b = (run_parts r [] max).bounds in record { low = omega arith; most = b.most })
 tops_of r (t ∷ ts) max =
     let ρ = r.replica in
-    let p = parts_of r (t ∷ ts) max in
+    let p = run_parts r (t ∷ ts) max in
     let b = p.bounds in
-    let c = (parts_of t ts p.rest).bounds in
+    let c = (run_parts t ts p.rest).bounds in
     let t-rises = c.rises in
     let lt : stop r + 1 < start t = lt_of (stop r + 1) (start t) p.apart in
     let again = tops_of t ts p.rest in
@@ -351,8 +351,8 @@ gaps_stand : (r : Run) (rs : List Run) → are_maximal (r ∷ rs) ≡ true → (
 gaps_stand r [] max least le = tt
 gaps_stand r (t ∷ ts) max least le =
     let ρ = r.replica in
-    let p = parts_of r (t ∷ ts) max in
-    let c = (parts_of t ts p.rest).bounds in
+    let p = run_parts r (t ∷ ts) max in
+    let c = (run_parts t ts p.rest).bounds in
     let t-rises = c.rises in
     let lt : stop r + 1 < start t = lt_of (stop r + 1) (start t) p.apart in
     elim (eqb_tells t.replica ρ) [
@@ -373,7 +373,7 @@ gaps_stand r (t ∷ ts) max least le =
 row_stands : (numbers : ℕ) (r : Run) (rs : List Run) → r.replica < numbers → are_maximal (r ∷ rs) ≡ true → RowStands numbers (row_in r rs)
 row_stands numbers r rs small max =
     let ρ = r.replica in
-    let b = (parts_of r rs max).bounds in
+    let b = (run_parts r rs max).bounds in
     let tops = tops_of r rs max in
     let rises = b.rises in
     let one = b.one in
@@ -391,7 +391,7 @@ row_stands numbers r rs small max =
 pub rows_stand : (numbers : ℕ) (rs : List Run) (least : ℕ) → AllByRecursion (λ (r : Run). r.replica < numbers) rs → are_maximal rs ≡ true → RowsStand numbers least (rows_from least rs)
 rows_stand numbers [] least small max = tt
 rows_stand numbers (r ∷ rs) least small max =
-    let p = parts_of r rs max in
+    let p = run_parts r rs max in
     elim (cases_lt r.replica least) [
       | inl lt ↦ subst (λ (x : List DotRow). RowsStand numbers least x) (sym (rows_skip least r rs lt)) (rows_stand numbers rs least small.1 p.rest)
       | inr ge ↦ (

@@ -13,8 +13,8 @@ use Rattle.rds_dots.specs.declared.dot.Run.{Run}
 use Rattle.rds_dots.specs.Dots.{Dots, IsRun, dot_cmp, in_run, is_dot, last_of}
 use Rattle.rds_dots.specs.Listed.{lists, dots_of}
 use Rattle.rds_dots.specs.Order.{dots_total, dots_exact}
-use Rattle.rds_dots.specs.RunFacts.{Bounds, parts_of}
-use Rattle.rds_dots.specs.Runs.{covers, are_maximal, runs_of}
+use Rattle.rds_dots.specs.RunFacts.{Bounds, run_parts}
+use Rattle.rds_dots.specs.Runs.{runs_cover, are_maximal, runs_of}
 use Rattle.rds_dots.specs.RunsOf.{are_runs, runs_are, covered_is_dot}
 use Rattle.rds_dots.specs.Sets.{contains_list, dot_limits, lists-run}
 use Rattle.rds_bytes.specs.declared.dots.Gap.{Gap}
@@ -30,15 +30,15 @@ is_run_of r b = record { from_one = b.one; rises = b.rises; within = b.most }
 
 -- ---- the dots
 
-lists-runs : (rs : List Run) → are_maximal rs ≡ true → (d : Dot) → lists (flat_map dots_of rs) d ≡ covers rs d
+lists-runs : (rs : List Run) → are_maximal rs ≡ true → (d : Dot) → lists (flat_map dots_of rs) d ≡ runs_cover rs d
 lists-runs [] max d = refl
 lists-runs (r ∷ rs) max d =
-    let p = parts_of r rs max in
+    let p = run_parts r rs max in
     ap (λ (ds : List Dot). lists ds d) (flat_map-cons dots_of r rs)
     ∙ list_any-append (eq_by_cmp dot_cmp d) (dots_of r) (flat_map dots_of rs)
     ∙ (λ i. lists-run r (is_run_of r p.bounds) d i || lists-runs rs p.rest d i)
 
-pub contains-runs : (rs : List Run) → are_maximal rs ≡ true → (d : Dot) → set.contains (dots_of_runs rs) d ≡ covers rs d
+pub contains-runs : (rs : List Run) → are_maximal rs ≡ true → (d : Dot) → set.contains (dots_of_runs rs) d ≡ runs_cover rs d
 unfolding dots_of_runs
 contains-runs rs max d = contains_list (flat_map dots_of rs) d ∙ lists-runs rs max d
 
@@ -49,10 +49,10 @@ runs_of-runs rs max = runs_are (dots_of_runs rs) rs (record { maximal = max; sam
 -- ---- rows that stand, and sets of dots
 
 -- a dot of a run of maximal runs
-small_runs : (numbers : ℕ) (rs : List Run) → are_maximal rs ≡ true → ((d : Dot) → covers rs d ≡ true → d.replica < numbers) → AllByRecursion (λ (r : Run). r.replica < numbers) rs
+small_runs : (numbers : ℕ) (rs : List Run) → are_maximal rs ≡ true → ((d : Dot) → runs_cover rs d ≡ true → d.replica < numbers) → AllByRecursion (λ (r : Run). r.replica < numbers) rs
 small_runs numbers [] max small = tt
 small_runs numbers (r ∷ rs) max small =
-    let p = parts_of r rs max in
+    let p = run_parts r rs max in
     let b = p.bounds in
     (small (last_of r) (or_left _ _ (in_last r.replica r.lo r.hi b.rises)), small_runs numbers rs p.rest (λ d h. small d (or_right (in_run r d) _ h)))
   where
@@ -91,22 +91,22 @@ or_cases false b h = inr h
 in_run_replica : (a s ρ lo hi : ℕ) → (eqb a ρ && leb lo s && leb s hi) ≡ true → a ≡ ρ
 in_run_replica a s ρ lo hi h = grind (arith, nat_tests)
 
-between_replica : (ρ top : ℕ) (gs : List Gap) (from : ℕ) (d : Dot) → covers (runs_between ρ from top gs) d ≡ true → d.replica ≡ ρ
+between_replica : (ρ top : ℕ) (gs : List Gap) (from : ℕ) (d : Dot) → runs_cover (runs_between ρ from top gs) d ≡ true → d.replica ≡ ρ
 between_replica ρ top [] from d h = elim (or_cases _ _ h) [ inl x ↦ in_run_replica d.replica d.seq ρ from top x | inr y ↦ absurd (false≢true y) ]
 between_replica ρ top (g ∷ gs) from d h =
     let rest : List Run = runs_between ρ (g.hi + 1) top gs in
     elim (cases_lt from g.lo) [
-      | inl lt ↦ elim (or_cases _ _ (sym (ap (λ (rs : List Run). covers rs d) (before_some ρ from g.lo rest lt)) ∙ h)) [
+      | inl lt ↦ elim (or_cases _ _ (sym (ap (λ (rs : List Run). runs_cover rs d) (before_some ρ from g.lo rest lt)) ∙ h)) [
         | inl x ↦ in_run_replica d.replica d.seq ρ from (g.lo - 1) x
         | inr y ↦ between_replica ρ top gs (g.hi + 1) d y
       ]
-      | inr ge ↦ between_replica ρ top gs (g.hi + 1) d (sym (ap (λ (rs : List Run). covers rs d) (before_none ρ from g.lo rest ge)) ∙ h)
+      | inr ge ↦ between_replica ρ top gs (g.hi + 1) d (sym (ap (λ (rs : List Run). runs_cover rs d) (before_none ρ from g.lo rest ge)) ∙ h)
     ]
 
-rows_replica : (numbers : ℕ) (rows : List DotRow) (least : ℕ) → RowsStand numbers least rows → (d : Dot) → covers (flat_map row_runs rows) d ≡ true → d.replica < numbers
+rows_replica : (numbers : ℕ) (rows : List DotRow) (least : ℕ) → RowsStand numbers least rows → (d : Dot) → runs_cover (flat_map row_runs rows) d ≡ true → d.replica < numbers
 rows_replica numbers [] least stand d h = absurd (false≢true h)
 rows_replica numbers (r ∷ rows) least stand d h =
-    let parts = sym (ap (λ (rs : List Run). covers rs d) (flat_map-cons row_runs r rows) ∙ list_any-append (λ (x : Run). in_run x d) (row_runs r) (flat_map row_runs rows)) ∙ h in
+    let parts = sym (ap (λ (rs : List Run). runs_cover rs d) (flat_map-cons row_runs r rows) ∙ list_any-append (λ (x : Run). in_run x d) (row_runs r) (flat_map row_runs rows)) ∙ h in
     elim (or_cases _ _ parts) [
       | inl x ↦ (let e = between_replica r.replica r.top r.gaps 1 d x in let lt = stand.0.1.0 in omega arith)
       | inr y ↦ rows_replica numbers rows (r.replica + 1) stand.1 d y
@@ -117,6 +117,6 @@ dots_back replicas rows stand =
     let n = numbers replicas in
     let rs : List Run = flat_map row_runs rows in
     let max = (rows_opens n (few replicas) rows 0 stand).maximal in (
-      (λ d h. (let covered : covers rs d ≡ true = sym (contains-runs rs max d) ∙ h in (covered_is_dot rs max d covered, numbers_below replicas d.replica (rows_replica n rows 0 stand d covered)))),
+      (λ d h. (let covered : runs_cover rs d ≡ true = sym (contains-runs rs max d) ∙ h in (covered_is_dot rs max d covered, numbers_below replicas d.replica (rows_replica n rows 0 stand d covered)))),
       ap (rows_from 0) (runs_of-runs rs max) ∙ rows_back n rows 0 stand,
     )

@@ -12,7 +12,7 @@ use Rattle.std.specs.FinSet as set
 use Rattle.rds_dots.specs.declared.dot.Dot.{Dot}
 use Rattle.rds_dots.specs.declared.dot.Run.{Run}
 use Rattle.rds_dots.specs.Dots.{Dots, IsRun, is_dot, last_of, comes_after}
-use Rattle.rds_dots.specs.RunFacts.{Bounds, parts_of}
+use Rattle.rds_dots.specs.RunFacts.{Bounds, run_parts}
 use Rattle.rds_dots.specs.Runs.{are_maximal, first_after, runs_of}
 use Rattle.rds_dots.specs.RunsAfter.{runs_left}
 use Rattle.rds_dots.specs.RunsOf.{are_runs}
@@ -27,7 +27,7 @@ use Rattle.rds_bytes.proofs.RowAlgebra.{ne_eqb, rows_skip, rows_open, gaps_same,
 found_bounds : (after : Option Dot) (rs : List Run) → are_maximal rs ≡ true → (r : Run) → first_after after rs ≡ Some r → Bounds r
 found_bounds after [] max r is = absurd (let none : ⊥ = cc in none)
 found_bounds after (t ∷ ts) max r is =
-    let p = parts_of t ts max in
+    let p = run_parts t ts max in
     elim (comes_after after (last_of t)) as (λ b. cond b (Some t) (first_after after ts) ≡ Some r → Bounds r) [
       | true ↦ λ e. (let same : t ≡ r = cc in subst Bounds same p.bounds)
       | false ↦ λ e. found_bounds after ts p.rest r e

@@ -10,7 +10,7 @@ use Rattle.rds_dots.specs.declared.dot.Dot.{Dot}
 use Rattle.rds_dots.specs.declared.dot.Run.{Run}
 use Rattle.rds_dots.specs.Dots.{Dots, in_run}
 use Rattle.rds_dots.specs.Order.{dots_total, dots_exact}
-use Rattle.rds_dots.specs.Runs.{covers, runs_of}
+use Rattle.rds_dots.specs.Runs.{runs_cover, runs_of}
 use Rattle.rds_bytes.specs.declared.dots.Gap.{Gap}
 use Rattle.rds_bytes.specs.declared.dots.DotRow.{DotRow}
 use Rattle.rds_bytes.specs.DotRows.{rows_from}
@@ -61,7 +61,7 @@ past_gap false t a = refl
 
 -- the runs between gaps have the numbers up to the top that are in none
 between_has : (ρ top : ℕ) (d : Dot) (gs : List Gap) (from least : ℕ) → from ≤ least → GapsStand least top gs
-    → covers (runs_between ρ from top gs) d ≡ (((eqb d.replica ρ && leb from d.seq) && leb d.seq top) && not (list_any (in_gap d.seq) gs))
+    → runs_cover (runs_between ρ from top gs) d ≡ (((eqb d.replica ρ && leb from d.seq) && leb d.seq top) && not (list_any (in_gap d.seq) gs))
 between_has ρ top d [] from least le stand = alone ((eqb d.replica ρ && leb from d.seq) && leb d.seq top)
 between_has ρ top d (g ∷ gs) from least le stand =
     let n = d.seq in
@@ -74,7 +74,7 @@ between_has ρ top d (g ∷ gs) from least le stand =
     let any = list_any (in_gap n) gs in
     elim (cases_lt from g.lo) [
       | inl lt ↦ (
-          let all = ap (λ (rs : List Run). covers rs d) (before_some ρ from g.lo rest lt) ∙ ap (λ b. ((e && leb from n) && leb n (g.lo - 1)) || b) later in
+          let all = ap (λ (rs : List Run). runs_cover rs d) (before_some ρ from g.lo rest lt) ∙ ap (λ b. ((e && leb from n) && leb n (g.lo - 1)) || b) later in
           elim (cases_lt n g.lo) [
             | inl before ↦ (
                 let none = none_has top n gs (g.hi + 2) stand.1 (omega arith) in
@@ -100,7 +100,7 @@ between_has ρ top d (g ∷ gs) from least le stand =
             ]
           ])
       | inr ge ↦ (
-          let all = ap (λ (rs : List Run). covers rs d) (before_none ρ from g.lo rest ge) ∙ later in
+          let all = ap (λ (rs : List Run). runs_cover rs d) (before_none ρ from g.lo rest ge) ∙ later in
           elim (cases_lt n g.lo) [
             | inl before ↦ (
                 let q = lt-leb (g.hi + 1) n (omega arith) in
@@ -125,10 +125,10 @@ between_has ρ top d (g ∷ gs) from least le stand =
 
 -- ---- all rows
 
-rows_have : (replicas : ℕ) (d : Dot) (rows : List DotRow) (least : ℕ) → RowsStand replicas least rows → covers (flat_map row_runs rows) d ≡ list_any (has_dot d) rows
+rows_have : (replicas : ℕ) (d : Dot) (rows : List DotRow) (least : ℕ) → RowsStand replicas least rows → runs_cover (flat_map row_runs rows) d ≡ list_any (has_dot d) rows
 rows_have replicas d [] least stand = refl
 rows_have replicas d (r ∷ rows) least stand =
-    ap (λ (rs : List Run). covers rs d) (flat_map-cons row_runs r rows)
+    ap (λ (rs : List Run). runs_cover rs d) (flat_map-cons row_runs r rows)
     ∙ list_any-append (λ (x : Run). in_run x d) (row_runs r) (flat_map row_runs rows)
     ∙ (λ i. between_has r.replica r.top d r.gaps 1 1 (omega arith) stand.0.1.1.1.1 i || rows_have replicas d rows (r.replica + 1) stand.1 i)
 

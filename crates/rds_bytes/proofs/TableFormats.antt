@@ -4,7 +4,7 @@ use Rattle.std.specs.Prelude.{slice_get}
 use Rattle.std.specs.Int.{w32, to_be_bytes}
 use Rattle.rds_bytes.specs.Spelling.{short_text}
 use Rattle.rds_bytes.specs.Reading.{number_at, is_new}
-use Rattle.rds_bytes.specs.Table.{has_key, number_of, IsTable}
+use Rattle.rds_bytes.specs.Table.{has_key, table_number, IsTable}
 use Rattle.rds_bytes.specs.TableTexts as texts
 use Rattle.rds_bytes.specs.TableTexts.{table_text, number_text}
 use Rattle.rds_bytes.specs.Values.{is_key_text}
@@ -29,12 +29,12 @@ table_format =
     (list_format _ _ _ new_key_format _ _ _ number32)
 
 module _ (table : List (List ℕ)) (few : CanCountKeys table) (is : IsTable table) where
-  number_there : (k : List ℕ) → has_key table k ≡ true → (number_of table k < 2 ^ 32) × (slice_get table (number_of table k) ≡ Some k)
+  number_there : (k : List ℕ) → has_key table k ≡ true → (table_number table k < 2 ^ 32) × (slice_get table (table_number table k) ≡ Some k)
   number_there k h = (let less = number_below table k h in (omega arith, key_at_number table k h))
 
-  number_back : (n : ℕ) (k : List ℕ) → n < 2 ^ 32 → slice_get table n ≡ Some k → (has_key table k ≡ true) × (number_of table k ≡ n)
+  number_back : (n : ℕ) (k : List ℕ) → n < 2 ^ 32 → slice_get table n ≡ Some k → (has_key table k ≡ true) × (table_number table k ≡ n)
   number_back n k lt at = (has_at table n k at, number_at_place table n k is.differ at)
 
   pub numbered_format : IsFormat (texts.numbered_at table) (number_text table) (λ k. has_key table k ≡ true)
   unfolding texts.numbered_at
-  numbered_format = drawn_format (slice_get table) (number_of table) (number_at w32) (to_be_bytes w32) _ _ number_there number_back number32
+  numbered_format = drawn_format (slice_get table) (table_number table) (number_at w32) (to_be_bytes w32) _ _ number_there number_back number32

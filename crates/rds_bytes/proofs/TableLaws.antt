@@ -13,7 +13,7 @@ use Rattle.rds_names.specs.Conditions.{and_true, and_left, and_right}
 use Rattle.rds_names.specs.Roster.{all_differ}
 use Rattle.rds_bytes.specs.Reading.{is_new}
 use Rattle.rds_bytes.proofs.PartFormats.{differ-push}
-use Rattle.rds_bytes.specs.Table.{has_key, AreIn, add_key, table_of, number_of, after_key}
+use Rattle.rds_bytes.specs.Table.{has_key, AreIn, add_key, table_of, table_number, after_key}
 
 pub same_key : (a b : List ℕ) → bytes_eq a b ≡ true → a ≡ b
 same_key a b h = (bytes_eq-Decides a b).0 h
@@ -30,8 +30,8 @@ no_some x h = absurd (let none : ⊥ = cc in none)
 pub has_turned : (xs : List (List ℕ)) (x : List ℕ) → list_any (λ m. bytes_eq m x) xs ≡ has_key xs x
 has_turned xs x i = list_any (λ m. nat_list_eq_equiv.symm m x i) xs
 
-head_number : (b : Bool) (x : List ℕ) (xs : List (List ℕ)) (k : List ℕ) → bytes_eq k x ≡ b → number_of (x ∷ xs) k ≡ cond (not b) (1 + number_of xs k) 0
-head_number b x xs k e = ap (λ t. cond (not t) (1 + number_of xs k) 0) e
+head_number : (b : Bool) (x : List ℕ) (xs : List (List ℕ)) (k : List ℕ) → bytes_eq k x ≡ b → table_number (x ∷ xs) k ≡ cond (not b) (1 + table_number xs k) 0
+head_number b x xs k e = ap (λ t. cond (not t) (1 + table_number xs k) 0) e
 
 pub head_has : (b : Bool) (x : List ℕ) (xs : List (List ℕ)) (k : List ℕ) → bytes_eq k x ≡ b → has_key (x ∷ xs) k ≡ (b || has_key xs k)
 head_has b x xs k e = ap (λ t. t || has_key xs k) e
@@ -49,7 +49,7 @@ next_number : (n m : ℕ) → n ≡ 1 + m → n ≡ suc m
 next_number n m h = omega arith
 
 -- the key at a place has the place for its number, where none stands twice
-pub number_at_place : (table : List (List ℕ)) (n : ℕ) (k : List ℕ) → all_differ table ≡ true → slice_get table n ≡ Some k → number_of table k ≡ n
+pub number_at_place : (table : List (List ℕ)) (n : ℕ) (k : List ℕ) → all_differ table ≡ true → slice_get table n ≡ Some k → table_number table k ≡ n
 number_at_place [] n k differ h = no_some k h
 number_at_place (x ∷ xs) zero k differ h = (let same : x ≡ k = cc in head_number true x xs k (subst (λ (y : List ℕ). bytes_eq k y ≡ true) (sym same) (is_same k)))
 number_at_place (x ∷ xs) (suc n) k differ h =
@@ -58,28 +58,28 @@ number_at_place (x ∷ xs) (suc n) k differ h =
     let apart : not (has_key xs x) ≡ true = ap not (sym (has_turned xs x)) ∙ and_left _ (all_differ xs) differ in
     by (bytes_eq k x) refl there later apart
   where
-    by : (b : Bool) → bytes_eq k x ≡ b → has_key xs k ≡ true → number_of xs k ≡ n → not (has_key xs x) ≡ true → number_of (x ∷ xs) k ≡ suc n
+    by : (b : Bool) → bytes_eq k x ≡ b → has_key xs k ≡ true → table_number xs k ≡ n → not (has_key xs x) ≡ true → table_number (x ∷ xs) k ≡ suc n
     by true e there later apart = absurd (false≢true (ap not (sym (subst (λ (y : List ℕ). has_key xs y ≡ true) (same_key k x e) there)) ∙ apart))
     by false e there later apart = next_number _ n (head_number false x xs k e ∙ ap (λ m. 1 + m) later)
 
 -- the key of a number
-pub key_at_number : (table : List (List ℕ)) (k : List ℕ) → has_key table k ≡ true → slice_get table (number_of table k) ≡ Some k
+pub key_at_number : (table : List (List ℕ)) (k : List ℕ) → has_key table k ≡ true → slice_get table (table_number table k) ≡ Some k
 key_at_number [] k h = absurd (false≢true h)
 key_at_number (x ∷ xs) k h = by (bytes_eq k x) refl (λ more. key_at_number xs k more)
   where
-    by : (b : Bool) → bytes_eq k x ≡ b → (has_key xs k ≡ true → slice_get xs (number_of xs k) ≡ Some k) → slice_get (x ∷ xs) (number_of (x ∷ xs) k) ≡ Some k
+    by : (b : Bool) → bytes_eq k x ≡ b → (has_key xs k ≡ true → slice_get xs (table_number xs k) ≡ Some k) → slice_get (x ∷ xs) (table_number (x ∷ xs) k) ≡ Some k
     by true e later = ap (slice_get (x ∷ xs)) (head_number true x xs k e) ∙ ap (λ (y : List ℕ). Some y) (sym (same_key k x e))
     by false e later =
         let more : has_key xs k ≡ true = sym (head_has false x xs k e) ∙ h in
-        ap (slice_get (x ∷ xs)) (next_number _ (number_of xs k) (head_number false x xs k e)) ∙ later more
+        ap (slice_get (x ∷ xs)) (next_number _ (table_number xs k) (head_number false x xs k e)) ∙ later more
 
 pub below_length : {A : Type 0} (xs : List A) (n : ℕ) (x : A) → slice_get xs n ≡ Some x → n < length xs
 below_length [] n x h = no_some x h
 below_length (y ∷ xs) zero x h = omega arith
 below_length (y ∷ xs) (suc n) x h = let less = below_length xs n x h in omega arith
 
-pub number_below : (table : List (List ℕ)) (k : List ℕ) → has_key table k ≡ true → number_of table k < length table
-number_below table k h = below_length table (number_of table k) k (key_at_number table k h)
+pub number_below : (table : List (List ℕ)) (k : List ℕ) → has_key table k ≡ true → table_number table k < length table
+number_below table k h = below_length table (table_number table k) k (key_at_number table k h)
 
 -- ---- the table of keys
 
@@ -144,37 +144,37 @@ pub table_all : (P : List ℕ → Bool) (keys : List (List ℕ)) → list_all P 
 unfolding table_of
 table_all P keys h = fold_all P keys [] refl h
 
-pub number_push : (xs : List (List ℕ)) (y k : List ℕ) → has_key xs k ≡ true → number_of (xs ++ y ∷ []) k ≡ number_of xs k
+pub number_push : (xs : List (List ℕ)) (y k : List ℕ) → has_key xs k ≡ true → table_number (xs ++ y ∷ []) k ≡ table_number xs k
 number_push [] y k h = absurd (false≢true h)
 number_push (x ∷ xs) y k h = by (bytes_eq k x) refl (λ more. number_push xs y k more)
   where
-    by : (b : Bool) → bytes_eq k x ≡ b → (has_key xs k ≡ true → number_of (xs ++ y ∷ []) k ≡ number_of xs k) → number_of ((x ∷ xs) ++ y ∷ []) k ≡ number_of (x ∷ xs) k
+    by : (b : Bool) → bytes_eq k x ≡ b → (has_key xs k ≡ true → table_number (xs ++ y ∷ []) k ≡ table_number xs k) → table_number ((x ∷ xs) ++ y ∷ []) k ≡ table_number (x ∷ xs) k
     by true e later = head_number true x (xs ++ y ∷ []) k e ∙ sym (head_number true x xs k e)
     by false e later = head_number false x (xs ++ y ∷ []) k e ∙ ap (λ m. 1 + m) (later (sym (head_has false x xs k e) ∙ h)) ∙ sym (head_number false x xs k e)
 
-pub number_last : (xs : List (List ℕ)) (k : List ℕ) → has_key xs k ≡ false → number_of (xs ++ k ∷ []) k ≡ number_of xs k
+pub number_last : (xs : List (List ℕ)) (k : List ℕ) → has_key xs k ≡ false → table_number (xs ++ k ∷ []) k ≡ table_number xs k
 number_last [] k h = head_number true k [] k (is_same k)
 number_last (x ∷ xs) k h = by (bytes_eq k x) refl (λ more. number_last xs k more)
   where
-    by : (b : Bool) → bytes_eq k x ≡ b → (has_key xs k ≡ false → number_of (xs ++ k ∷ []) k ≡ number_of xs k) → number_of ((x ∷ xs) ++ k ∷ []) k ≡ number_of (x ∷ xs) k
+    by : (b : Bool) → bytes_eq k x ≡ b → (has_key xs k ≡ false → table_number (xs ++ k ∷ []) k ≡ table_number xs k) → table_number ((x ∷ xs) ++ k ∷ []) k ≡ table_number (x ∷ xs) k
     by true e later = head_number true x (xs ++ k ∷ []) k e ∙ sym (head_number true x xs k e)
     by false e later = head_number false x (xs ++ k ∷ []) k e ∙ ap (λ m. 1 + m) (later (sym (head_has false x xs k e) ∙ h)) ∙ sym (head_number false x xs k e)
 
 -- what a key that isn't there has for its number
-pub number_none : (xs : List (List ℕ)) (k : List ℕ) → has_key xs k ≡ false → number_of xs k ≡ length xs
+pub number_none : (xs : List (List ℕ)) (k : List ℕ) → has_key xs k ≡ false → table_number xs k ≡ length xs
 number_none [] k h = refl
 number_none (x ∷ xs) k h = by (bytes_eq k x) refl (λ more. number_none xs k more)
   where
-    by : (b : Bool) → bytes_eq k x ≡ b → (has_key xs k ≡ false → number_of xs k ≡ length xs) → number_of (x ∷ xs) k ≡ suc (length xs)
+    by : (b : Bool) → bytes_eq k x ≡ b → (has_key xs k ≡ false → table_number xs k ≡ length xs) → table_number (x ∷ xs) k ≡ suc (length xs)
     by true e later = absurd (false≢true (sym h ∙ head_has true x xs k e))
     by false e later = next_number _ (length xs) (head_number false x xs k e ∙ ap (λ m. 1 + m) (later (sym (head_has false x xs k e) ∙ h)))
 
 -- a key keeps its number when another is added, and has it before it is added
-pub number_kept : (table : List (List ℕ)) (j k : List ℕ) → has_key table k ≡ true → number_of (add_key table j) k ≡ number_of table k
-number_kept table j k h = add_case (λ t. number_of t k ≡ number_of table k) table j (has_key table j) refl (λ _. refl) (λ _. number_push table j k h)
+pub number_kept : (table : List (List ℕ)) (j k : List ℕ) → has_key table k ≡ true → table_number (add_key table j) k ≡ table_number table k
+number_kept table j k h = add_case (λ t. table_number t k ≡ table_number table k) table j (has_key table j) refl (λ _. refl) (λ _. number_push table j k h)
 
-pub number_after_add : (table : List (List ℕ)) (k : List ℕ) → number_of (add_key table k) k ≡ number_of table k
-number_after_add table k = add_case (λ t. number_of t k ≡ number_of table k) table k (has_key table k) refl (λ _. refl) (λ h. number_last table k h)
+pub number_after_add : (table : List (List ℕ)) (k : List ℕ) → table_number (add_key table k) k ≡ table_number table k
+number_after_add table k = add_case (λ t. table_number t k ≡ table_number table k) table k (has_key table k) refl (λ _. refl) (λ h. number_last table k h)
 
 -- ---- keys that are met in turn
 
@@ -198,12 +198,12 @@ has_taken (x ∷ xs) n zero k lt h = absurd (let none : ⊥ = omega arith in non
 has_taken (x ∷ xs) zero (suc u) k lt h = has_at (x ∷ take u xs) 0 k h
 has_taken (x ∷ xs) (suc n) (suc u) k lt h = ap (λ t. bytes_eq k x || t) (has_taken xs n u k (omega arith) h) ∙ or_true (bytes_eq k x)
 
-pub not_taken : (table : List (List ℕ)) (u : ℕ) (k : List ℕ) → u ≤ number_of table k → has_key (take u table) k ≡ false
+pub not_taken : (table : List (List ℕ)) (u : ℕ) (k : List ℕ) → u ≤ table_number table k → has_key (take u table) k ≡ false
 not_taken table zero k le = refl
 not_taken [] (suc u) k le = refl
 not_taken (x ∷ xs) (suc u) k le = by (bytes_eq k x) refl (λ later. not_taken xs u k later)
   where
-    by : (b : Bool) → bytes_eq k x ≡ b → (u ≤ number_of xs k → has_key (take u xs) k ≡ false) → has_key (x ∷ take u xs) k ≡ false
+    by : (b : Bool) → bytes_eq k x ≡ b → (u ≤ table_number xs k → has_key (take u xs) k ≡ false) → has_key (x ∷ take u xs) k ≡ false
     by true e more = absurd (let zero_is = head_number true x xs k e in let none : ⊥ = omega arith in none)
     by false e more = (let next = head_number false x xs k e in head_has false x (take u xs) k e ∙ more (omega arith))
 
@@ -213,7 +213,7 @@ take_push (y ∷ xs) zero x h = (let same : y ≡ x = cc in ap (λ z. z ∷ []) 
 take_push (y ∷ xs) (suc n) x h = ap (λ t. y ∷ t) (take_push xs n x h)
 
 module _ (table : List (List ℕ)) (differ : all_differ table ≡ true) where
-  met_one : (met : List (List ℕ)) (u n : ℕ) (k : List ℕ) (less same : Bool) → ltb u n ≡ less → eqb n u ≡ same → met ≡ take u table → u ≤ length table → slice_get table n ≡ Some k → number_of table k ≡ n
+  met_one : (met : List (List ℕ)) (u n : ℕ) (k : List ℕ) (less same : Bool) → ltb u n ≡ less → eqb n u ≡ same → met ≡ take u table → u ≤ length table → slice_get table n ≡ Some k → table_number table k ≡ n
       → IsMet table (add_key met k) (cond less None (cond same (Some (u + 1)) (Some u)))
   met_one met u n k true same lt eq is le there number =
       let over : u < n = (let o = lt in ltb-true u n o) in
@@ -238,7 +238,7 @@ module _ (table : List (List ℕ)) (differ : all_differ table ≡ true) where
 
   met_step : (met : List (List ℕ)) (m : Option ℕ) (k : List ℕ) → has_key table k ≡ true → IsMet table met m → IsMet table (add_key met k) (after_key table m k)
   met_step met None k h is = (is.0, is.1, add_case (λ t. slice_get t is.0 ≡ Some is.1) met k (has_key met k) refl (λ _. is.2) (λ _. get_more met k is.0 is.1 is.2), is.3)
-  met_step met (Some u) k h is = met_one met u (number_of table k) k (ltb u (number_of table k)) (eqb (number_of table k) u) refl refl is.0 is.1 (key_at_number table k h) refl
+  met_step met (Some u) k h is = met_one met u (table_number table k) k (ltb u (table_number table k)) (eqb (table_number table k) u) refl refl is.0 is.1 (key_at_number table k h) refl
 
   met_all : (keys met : List (List ℕ)) (m : Option ℕ) → AreIn table keys → IsMet table met m → IsMet table (fold add_key met keys) (fold (after_key table) m keys)
   met_all [] met m are is = is

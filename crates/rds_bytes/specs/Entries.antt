@@ -6,12 +6,12 @@ use Rattle.rds_names.specs.declared.entry.Kind.{Kind}
 use Rattle.rds_names.specs.declared.scalar.Scalar.{Scalar}
 
 -- a path, a kind and a value
-abbrev pub Parts : Type 0
-Parts = List (List ℕ) × (Kind × Scalar)
+abbrev pub EntryTuple : Type 0
+EntryTuple = List (List ℕ) × (Kind × Scalar)
 
-abbrev pub parts_of : Entry → Parts
-parts_of e = (e.path, (e.kind, e.value))
+abbrev pub tuple_of : Entry → EntryTuple
+tuple_of e = (e.path, (e.kind, e.value))
 
 -- the entry, where the path has one key at least and 8 at most
-abbrev pub entry_of : Parts → Option Entry
-entry_of p = entry_from_parts p.0 p.1.0 p.1.1
+abbrev pub entry_of_tuple : EntryTuple → Option Entry
+entry_of_tuple p = entry_from_parts p.0 p.1.0 p.1.1

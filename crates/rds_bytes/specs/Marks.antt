@@ -12,9 +12,9 @@ unfoldable pub with_byte : ℕ → ℕ → ℕ
 with_byte word byte = (word * 256 % 2 ^ 64 + byte) % 2 ^ 64
 
 -- the last eight bytes as a number, or all where they are fewer
-abbrev pub last_word : List ℕ → ℕ
-last_word bytes = if nat_lt (length bytes) 8 then fold with_byte 0 bytes else from_le_bytes w64 (drop (length bytes - 8) bytes)
+abbrev pub last_eight : List ℕ → ℕ
+last_eight bytes = if nat_lt (length bytes) 8 then fold with_byte 0 bytes else from_le_bytes w64 (drop (length bytes - 8) bytes)
 
 -- eight bytes at a time are mixed in, and then the last eight, which have those that are left
 unfoldable pub mark : List ℕ → ℕ
-mark bytes = mixed (fold (λ m word. mixed m (from_le_bytes w64 word)) 0 (first_chunks 8 (length bytes / 8) bytes)) (last_word bytes)
+mark bytes = mixed (fold (λ m word. mixed m (from_le_bytes w64 word)) 0 (first_chunks 8 (length bytes / 8) bytes)) (last_eight bytes)

@@ -6,25 +6,23 @@ use Rattle.std.specs.Ordering.{nat_cmp, ordering_then}
 use Rattle.std.specs.declared.cmp.Ordering.{Ordering}
 use Rattle.std.specs.Cmp.Lexicographic.{slice_cmp}
 use Rattle.rds_names.specs.declared.entry.Entry.{Entry}
+use Rattle.rds_names.specs.Key.{key_cmp}
 use Rattle.rds_dots.specs.declared.dot.Dot.{Dot}
 use Rattle.rds_counts.specs.declared.row.CountRow.{CountRow}
 use Rattle.rds_bytes.specs.Marks.{mark}
 use Rattle.rds_bytes.specs.Spelling.{keyed_live_rows_text, byte_text, kind_byte, scalar_text, dot_text, counts_text}
-use Rattle.rds_bytes.specs.Table.{has_key, add_key, number_of}
+use Rattle.rds_bytes.specs.Table.{has_key, add_key, table_number}
 use Rattle.rds_bytes.specs.TableTexts.{number_text}
 use Rattle.rds_bytes.specs.Values.{IsLiveRow}
 
 -- the number of each key in the table as it is when the key comes
 abbrev pub numbers_from : List (List ℕ) → List (List ℕ) → List ℕ
 numbers_from table [] = []
-numbers_from table (k ∷ keys) = number_of table k ∷ numbers_from (add_key table k) keys
+numbers_from table (k ∷ keys) = table_number table k ∷ numbers_from (add_key table k) keys
 
 -- the number of a key, where the table has it
 abbrev pub place_in : List (List ℕ) → List ℕ → Option ℕ
-place_in table key = if has_key table key then Some (number_of table key) else None
-
-abbrev pub key_cmp : List ℕ → List ℕ → Ordering
-key_cmp = slice_cmp nat_cmp
+place_in table key = if has_key table key then Some (table_number table key) else None
 
 -- a key with its mark, against another with its own: by the marks, and by the keys where those are equal
 abbrev pub marked_cmp : List ℕ → ℕ → List ℕ → Ordering
@@ -53,9 +51,9 @@ pub record AreMeasured (n : ℕ) (rows : List (Dot × Entry)) : Type 0 where
   pub are_entries : AllByRecursion IsLiveRow rows
 
 -- how many keys rows have
-abbrev pub keys_in : List (Dot × Entry) → ℕ
-keys_in [] = 0
-keys_in (row ∷ rows) = length row.1.path + keys_in rows
+abbrev pub count_of_keys : List (Dot × Entry) → ℕ
+count_of_keys [] = 0
+count_of_keys (row ∷ rows) = length row.1.path + count_of_keys rows
 
 -- rows of counters, each with one of the numbers
 abbrev pub numbered_counts_text : List CountRow → List ℕ → List ℕ

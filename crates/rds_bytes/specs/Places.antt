@@ -10,13 +10,13 @@ use Rattle.rds_bytes.specs.declared.places.Place.{Place}
 use Rattle.rds_bytes.specs.Marks.{mark}
 use Rattle.rds_bytes.specs.Numbers.{place_in, marked_cmp}
 
-abbrev pub is_key : Option (List ℕ) → List ℕ → Bool
-is_key None key = false
-is_key (Some known) key = bytes_eq key known
+abbrev pub is_known_key : Option (List ℕ) → List ℕ → Bool
+is_known_key None key = false
+is_known_key (Some known) key = bytes_eq key known
 
 -- whether the key of a number is this one
 abbrev pub stands_at : List (List ℕ) → ℕ → List ℕ → Bool
-stands_at keys number key = is_key (slice_get keys number) key
+stands_at keys number key = is_known_key (slice_get keys number) key
 
 -- ---- a bucket: numbers, each as one more and with a part of its key's mark, and 0 where there is room
 

@@ -26,7 +26,7 @@ use Rattle.rds_counts.specs.Counted.{Counted, counts_of}
 use Rattle.rds_bytes.specs.declared.dots.Gap.{Gap}
 use Rattle.rds_bytes.specs.declared.dots.DotRow.{DotRow}
 use Rattle.rds_bytes.specs.declared.dot_rows.RowHead.{RowHead}
-use Rattle.rds_bytes.specs.Entries.{entry_of}
+use Rattle.rds_bytes.specs.Entries.{entry_of_tuple}
 use Rattle.rds_bytes.specs.RowDots.{dots_of_rows}
 use Rattle.rds_bytes.specs.Spelling.{magic}
 
@@ -280,7 +280,7 @@ path_with key = when_at (λ keys. nat_le (length keys) 8) (list_at (when_at (is_
 
 -- an entry with such a path; one that was read has 1 to 8 keys, so these parts are always an entry
 abbrev pub entry_with : Reader (List (List ℕ)) → Reader Entry
-entry_with path = drawn_at entry_of (pair_at path (pair_at kind_at scalar_at))
+entry_with path = drawn_at entry_of_tuple (pair_at path (pair_at kind_at scalar_at))
 
 -- the next row with such an entry
 abbrev pub live_row_with : Reader Entry → Dots → List (Dot × Entry) → Reader (Dot × Entry)

@@ -9,7 +9,7 @@ use Rattle.rds_counts.specs.Counted.{counts_of}
 use Rattle.rds_counts.specs.declared.row.CountRow.{CountRow}
 use Rattle.rds_bytes.specs.declared.dots.Gap.{Gap}
 use Rattle.rds_bytes.specs.declared.dots.DotRow.{DotRow}
-use Rattle.rds_bytes.specs.Entries.{entry_of}
+use Rattle.rds_bytes.specs.Entries.{entry_of_tuple}
 use Rattle.rds_bytes.specs.RowDots.{dots_of_rows}
 use Rattle.rds_bytes.specs.Packed.{packed_by, nothing_at, packed_up_to, packed_at}
 use Rattle.rds_bytes.specs.Reading.{Reader, when_at, last, magic_at, short_at, key_at, name_at, new_name_at, names_at, roster_by, roster_at, replica_at, member_at, header_at, gap_by, gap_at, gaps_at, numbers_at, dot_row_by, dot_row_at, dot_rows_at, dots_at, row_head_by, row_head_at, row_gaps_at, kind_by, kind_at, int_at, text_at, int_scalar, text_scalar, text_scalar_at, tagged_at, scalar_at, dot_by, dot_at, counts_at, count_row_by, keyed_path_at, keyed_entry_at, keyed_live_row_at, keyed_live_rows_at, keyed_place_at, keyed_count_row_at, keyed_count_rows_at, keyed_counters_at, path_at, entry_at, live_row_at, live_rows_at, place_at, count_row_at, count_rows_at, counters_at}
@@ -138,7 +138,7 @@ module _ (key : Reader (List ℕ)) (key_is : IsSteady key) where
 
   pub keyed_entry_steady : IsSteady (keyed_entry_at key)
   unfolding keyed_entry_at
-  keyed_entry_steady = drawn_steady entry_of _ (pair_steady _ _ keyed_path_steady (pair_steady _ _ kind_steady scalar_steady))
+  keyed_entry_steady = drawn_steady entry_of_tuple _ (pair_steady _ _ keyed_path_steady (pair_steady _ _ kind_steady scalar_steady))
 
   pub keyed_live_row_steady : (seen : Dots) (before : List (Dot × Entry)) → IsSteady (keyed_live_row_at key seen before)
   unfolding keyed_live_row_at

@@ -27,8 +27,8 @@ unfoldable pub table_of : List (List ℕ) → List (List ℕ)
 table_of keys = fold add_key [] keys
 
 -- where a key stands in the table, from 0
-abbrev pub number_of : List (List ℕ) → List ℕ → ℕ
-number_of table key = position_or_len (bytes_eq key) table
+abbrev pub table_number : List (List ℕ) → List ℕ → ℕ
+table_number table key = position_or_len (bytes_eq key) table
 
 -- keys, no two of which are equal
 pub record IsTable (table : List (List ℕ)) : Type 0 where
@@ -65,4 +65,4 @@ after_number (Some met) n = if nat_lt met n then None else (if n == met then Som
 
 -- the same, after the key
 abbrev pub after_key : List (List ℕ) → Option ℕ → List ℕ → Option ℕ
-after_key table met key = after_number met (number_of table key)
+after_key table met key = after_number met (table_number table key)

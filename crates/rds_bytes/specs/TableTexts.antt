@@ -4,7 +4,7 @@ use Rattle.std.specs.List.{flat_map}
 use Rattle.std.specs.Int.{w32, to_be_bytes}
 use Rattle.rds_bytes.specs.Spelling.{short_text}
 use Rattle.rds_bytes.specs.Reading.{Reader, drawn_at, when_at, list_at, number_at, is_new, key_at}
-use Rattle.rds_bytes.specs.Table.{number_of}
+use Rattle.rds_bytes.specs.Table.{table_number}
 
 -- the keys of a table, after their number
 unfoldable pub table_text : List (List ℕ) → List ℕ
@@ -12,7 +12,7 @@ table_text table = to_be_bytes w32 (length table) ++ flat_map short_text table
 
 -- the number of a key in a table
 abbrev pub number_text : List (List ℕ) → List ℕ → List ℕ
-number_text table key = to_be_bytes w32 (number_of table key)
+number_text table key = to_be_bytes w32 (table_number table key)
 
 -- a key that none before it equals
 unfoldable pub new_key_at : List (List ℕ) → Reader (List ℕ)

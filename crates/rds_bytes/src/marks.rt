@@ -1,7 +1,7 @@
 //! Marks of keys: numbers made of their bytes, by which most keys are told apart at once.
 ghost use Rattle.std.specs.Prelude.{◌≡◌, fold};
 ghost use Rattle.std.specs.Int.{w64, from_le_bytes};
-ghost use Rattle.rds_bytes.specs.Marks.{mixed, with_byte, last_word, mark};
+ghost use Rattle.rds_bytes.specs.Marks.{mixed, with_byte, last_eight, mark};
 
 use rds_names::Key;
 
@@ -52,7 +52,7 @@ fn short_word(mut bytes: &[u8]) -> u64
 
 /// The last eight bytes as a number, or all where they are fewer.
 fn last_word(bytes: &[u8]) -> u64
-    ensures { result ≡ last_word bytes.now }
+    ensures { result ≡ last_eight bytes.now }
 {
     match bytes.last_chunk::<8>() {
         Some(last) => u64::from_le_bytes(*last),

@@ -27,7 +27,7 @@ ghost use Rattle.rds_bytes.specs.Numbers.{
   keys_in,
 };
 ghost use Rattle.rds_bytes.specs.Spelling.{short_text, scalar_text, keyed_live_rows_text, keyed_counters_text};
-ghost use Rattle.rds_bytes.specs.Table.{number_of, rows_table, used_keys};
+ghost use Rattle.rds_bytes.specs.Table.{table_number, rows_table, used_keys};
 ghost use Rattle.rds_bytes.specs.TableTexts.{table_text, number_text};
 ghost use Rattle.rds_bytes.specs.Values.{IsKeyText, IsScalar};
 ghost use Rattle.rds_bytes.specs.Writing.{Adds};
@@ -178,7 +178,7 @@ pub fn put_numbered<S: DotSet>(
     counts: &Counts,
     numbers: &[u32],
 ) -> Result<(), AllocError>
-    requires numbers { numbers.now ≡ each (number_of (rows_table (live_rows lives.now) (count_rows counts.now)))
+    requires numbers { numbers.now ≡ each (table_number (rows_table (live_rows lives.now) (count_rows counts.now)))
         (used_keys (live_rows lives.now) (count_rows counts.now)) }
     requires rows { length (live_rows lives.now) < 2 ^ 32 }
     requires counts { length (count_rows counts.now) < 2 ^ 32 }

@@ -8,7 +8,7 @@ ghost use Rattle.rds_bytes.specs.Marks.{mark as its_mark};
 ghost use Rattle.rds_bytes.specs.Numbers.{AreMeasured, numbers_from};
 ghost use Rattle.rds_bytes.specs.Places.{AreFound};
 ghost use Rattle.rds_bytes.specs.Values.{is_key_text};
-ghost use Rattle.rds_bytes.specs.Table.{has_key, add_key, number_of, rows_table, live_keys, counter_keys, used_keys};
+ghost use Rattle.rds_bytes.specs.Table.{has_key, add_key, table_number, rows_table, live_keys, counter_keys, used_keys};
 
 use crate::keys::key_length;
 use crate::marks::mark_of;
@@ -82,7 +82,7 @@ impl Numbering {
         requires { AreFound self.old.places self.old.keys.items }
         ensures found { OnOk result (AreFound self.new.places self.new.keys.items) }
         ensures keys { OnOk result (self.new.keys.items ≡ add_key self.old.keys.items key.now) }
-        ensures number { IfOk result (λ number. number ≡ number_of self.old.keys.items key.now) }
+        ensures number { IfOk result (λ number. number ≡ table_number self.old.keys.items key.now) }
         ensures numbers { self.new.numbers.items ≡ self.old.numbers.items }
         ensures memory { IfErr result (λ fault. fault ≡ Memory) }
     {
@@ -103,7 +103,7 @@ impl Numbering {
         requires { AreFound self.old.places self.old.keys.items }
         ensures found { OnOk result (AreFound self.new.places self.new.keys.items) }
         ensures keys { OnOk result (self.new.keys.items ≡ add_key self.old.keys.items key.now) }
-        ensures number { IfOk result (λ number. number ≡ number_of self.old.keys.items key.now) }
+        ensures number { IfOk result (λ number. number ≡ table_number self.old.keys.items key.now) }
         ensures numbers { self.new.numbers.items ≡ self.old.numbers.items }
         ensures memory { IfErr result (λ fault. fault ≡ Memory) }
     {
@@ -123,7 +123,7 @@ impl Numbering {
         ensures found { OnOk result (AreFound self.new.places self.new.keys.items) }
         ensures keys { OnOk result (self.new.keys.items ≡ add_key self.old.keys.items key.now) }
         ensures numbers { OnOk result (self.new.numbers.items
-            ≡ self.old.numbers.items ++ number_of self.old.keys.items key.now ∷ []) }
+            ≡ self.old.numbers.items ++ table_number self.old.keys.items key.now ∷ []) }
         ensures memory { IfErr result (λ fault. fault ≡ Memory) }
     {
         let number = self.number(alloc, guess, key)?;
@@ -231,7 +231,7 @@ pub fn number_keys<S: DotSet>(
 ) -> Result<NumberedKeys, Fault>
     ensures keys { IfOk result (λ n. n.keys.items ≡ rows_table (live_rows lives.now) (count_rows counts.now)) }
     ensures numbers { IfOk result (λ n. n.numbers.items
-        ≡ each (number_of (rows_table (live_rows lives.now) (count_rows counts.now)))
+        ≡ each (table_number (rows_table (live_rows lives.now) (count_rows counts.now)))
         (used_keys (live_rows lives.now) (count_rows counts.now))) }
     ensures measured { IfOk result (λ n. AreMeasured n.lives_length (live_rows lives.now)) }
     ensures memory { IfErr result (λ fault. fault ≡ Memory) }

@@ -18,7 +18,7 @@ ghost use Rattle.std.specs.Prelude.{
 ghost use Rattle.rds_names.specs.declared.fault.Fault.TheVariants.{Memory, Bad};
 ghost use Rattle.rds_names.specs.Roster.{all_differ};
 ghost use Rattle.rds_bytes.specs.Reading.{Reads};
-ghost use Rattle.rds_bytes.specs.Table.{number_of, after_number};
+ghost use Rattle.rds_bytes.specs.Table.{table_number, after_number};
 ghost use Rattle.rds_bytes.specs.TableTexts.{numbered_at};
 ghost use Rattle.rds_bytes.specs.TableValue.{meeting};
 
@@ -64,7 +64,7 @@ impl Table {
     /// A copy of the key of a number.
     fn find(&self, alloc: Global, number: usize) -> Result<Key, Fault>
         ensures found { IfOk result (λ key. slice_get self.now number ≡ Some key) }
-        ensures place { IfOk result (λ key. number_of self.now key ≡ number) }
+        ensures place { IfOk result (λ key. table_number self.now key ≡ number) }
         ensures none { IfErr result (λ fault. (fault ≡ Memory)
             ⊎ ((fault ≡ Bad) × (slice_get self.now number ≡ None))) }
     {

@@ -23,10 +23,10 @@ fault_of (Refused response) = faults.PeerEnded
 fault_of (Unfit fault) = fault
 
 -- one of the two sides refused the other
-abbrev pub is_refusal : Standing → Bool
-is_refusal (standings.Refused status fault) = true
-is_refusal (standings.Unfit fault) = true
-is_refusal _ = false
+abbrev pub is_refused_standing : Standing → Bool
+is_refused_standing (standings.Refused status fault) = true
+is_refused_standing (standings.Unfit fault) = true
+is_refused_standing _ = false
 
 -- the node stands so after it
 abbrev pub StandsAfter : Trouble → Standing → Type 0

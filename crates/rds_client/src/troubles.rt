@@ -1,6 +1,6 @@
 //! Why an exchange with a peer broke off, or how it ended, and how the peer stands then.
 ghost use Rattle.std.specs.Prelude.{◌≡◌, ◌≢◌};
-ghost use Rattle.rds_client.specs.Troubles.{StandsAfter, fault_of, is_refusal};
+ghost use Rattle.rds_client.specs.Troubles.{StandsAfter, fault_of, is_refused_standing};
 ghost use Rattle.rds_client.specs.declared.troubles.End.TheVariants as Ends;
 ghost use Rattle.rds_client.specs.declared.troubles.Standing.TheVariants.{Forked, Met};
 
@@ -171,7 +171,7 @@ impl Standing {
 
     /// Whether one of the two sides refused the other.
     pub fn is_refusal(self) -> bool
-        ensures { result ≡ is_refusal self }
+        ensures { result ≡ is_refused_standing self }
     {
         matches!(self, Standing::Refused { .. } | Standing::Unfit { .. })
     }

@@ -139,8 +139,8 @@ amount_format = when_format is_count _ _ _ number64
 abbrev IsClaim : Which × (ℕ × ℕ) → Type 0
 IsClaim c = Unit {0} × (IsAmount c.1.0 × IsAmount c.1.1)
 
-claim_format : IsFormat read.claim_at (λ c. claim_text c.0 c.1.0 c.1.1) IsClaim
-unfolding read.claim_at
+claim_format : IsFormat read.amounts_at (λ c. claim_text c.0 c.1.0 c.1.1) IsClaim
+unfolding read.amounts_at
 claim_format = pair_format _ _ _ _ _ _ which_format (pair_format _ _ _ _ _ _ amount_format amount_format)
 
 abbrev IsCounter : ℕ → List ℕ × ℕ → Type 0
@@ -204,8 +204,8 @@ module _ (replicas : ℕ) where
   count_is : (p : CountParts) → IsNumberClaim replicas p → IsRowOf replicas (count_by p)
   count_is p h = ((h.0.0, h.0.1.0), (h.0.1.1, (leb-true p.1.1.0 281474976710655 h.1.1.0.1, leb-true p.1.1.1 281474976710655 h.1.1.1.1)))
 
-  row_takes : (bytes : List ℕ) (x : Row × List ℕ) → IsBytes bytes → read.row_at replicas bytes ≡ Ok x → Spelled bytes x
-  unfolding read.row_at
+  row_takes : (bytes : List ℕ) (x : Row × List ℕ) → IsBytes bytes → read.certificate_row_at replicas bytes ≡ Ok x → Spelled bytes x
+  unfolding read.certificate_row_at
   row_takes bytes x fits e =
       let a = bind_ok (byte_at bytes) (λ t. tagged_row_at replicas t.0 t.1) x e in
       let t = a.0.0 in
@@ -231,14 +231,14 @@ module _ (replicas : ℕ) where
   count_fits : (key : List ℕ) (replica : ℕ) (which : Which) (sent peer : ℕ) → IsRowOf replicas (Count key replica which sent peer) → IsNumberClaim replicas ((key, replica), (which, (sent, peer)))
   count_fits key replica which sent peer h = ((h.0.0, (h.0.1, h.1.0)), (tt, (amount sent h.1.1.0, amount peer h.1.1.1)))
 
-  row_again : (r : Row) (rest : List ℕ) → IsRowOf replicas r → read.row_at replicas (row_text r ++ rest) ≡ Ok (r, rest)
-  unfolding read.row_at
+  row_again : (r : Row) (rest : List ℕ) → IsRowOf replicas r → read.certificate_row_at replicas (row_text r ++ rest) ≡ Ok (r, rest)
+  unfolding read.certificate_row_at
   row_again (Live d) rest h = rw ((dot_format replicas).again d rest h.1) refl
   row_again (Dead r peer) rest h = rw ((dead_format replicas).again (r, peer) rest (dead_fits r peer h)) refl
   row_again (Count key replica which sent peer) rest h = rw ((number_claim_format replicas).again ((key, replica), (which, (sent, peer))) rest (count_fits key replica which sent peer h)) refl
 
-  row_faults : (bytes : List ℕ) (e : Fault) → IsBytes bytes → read.row_at replicas bytes ≡ Err e → CutOrBad e
-  unfolding read.row_at
+  row_faults : (bytes : List ℕ) (e : Fault) → IsBytes bytes → read.certificate_row_at replicas bytes ≡ Err e → CutOrBad e
+  unfolding read.certificate_row_at
   row_faults bytes e fits h =
       elim (bind_err (byte_at bytes) (λ t. tagged_row_at replicas t.0 t.1) e h) [
         | inl first ↦ byte_format.faults bytes e fits first
@@ -258,7 +258,7 @@ module _ (replicas : ℕ) where
             ]
       ]
 
-  row_format : IsFormat (read.row_at replicas) row_text (IsRowOf replicas)
+  row_format : IsFormat (read.certificate_row_at replicas) row_text (IsRowOf replicas)
   row_format = record { takes = row_takes; again = row_again; faults = row_faults }
 
   -- ---- certificates

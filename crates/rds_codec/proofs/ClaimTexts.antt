@@ -20,7 +20,7 @@ use Rattle.rds_dots.specs.Sets.{dot_limits}
 use Rattle.rds_counts.specs.declared.row.CountRow.{CountRow}
 use Rattle.rds_counts.specs.declared.row.Which.{Which}
 use Rattle.rds_counts.specs.declared.row.Which.TheVariants.{P, N}
-use Rattle.rds_counts.specs.Counted.{Above, above, components, is_row, number, number_from, place}
+use Rattle.rds_counts.specs.Counted.{Above, entry_above, components, is_row, number, number_from, place}
 use Rattle.rds_counts.specs.Entries.{entries-counts_of}
 use Rattle.rds_counts.specs.Place.{Place, place_cmp}
 use Rattle.rds_counts.specs.PlaceOrder.{place_total}
@@ -133,7 +133,7 @@ module _ (replicas : ℕ) where
   abbrev IsSent : Place × Above → Type 0
   IsSent e = (e.0.replica < replicas) × (e.1.before + 1 ≤ 281474976710655)
 
-  sent_one : (key : List ℕ) (replica : ℕ) (which : Which) (n : ℕ) → replica < replicas → n ≤ 281474976710655 → AllByRecursion IsSent (above (place key replica which) n)
+  sent_one : (key : List ℕ) (replica : ℕ) (which : Which) (n : ℕ) → replica < replicas → n ≤ 281474976710655 → AllByRecursion IsSent (entry_above (place key replica which) n)
   sent_one key replica which zero small few = tt
   sent_one key replica which (suc n) small few = ((small, omega arith), tt)
 
@@ -144,8 +144,8 @@ module _ (replicas : ℕ) where
       let some = ltb 0 r.p || ltb 0 r.n in
       let p = leb-true r.p 281474976710655 (and_right some _ (and_left (some && leb r.p 281474976710655) _ (and_left (some && leb r.p 281474976710655 && leb r.n 281474976710655) _ is))) in
       let n = leb-true r.n 281474976710655 (and_right (some && leb r.p 281474976710655) _ (and_left (some && leb r.p 281474976710655 && leb r.n 281474976710655) _ is)) in
-      all_append IsSent (above (place r.key r.replica P) r.p) (above (place r.key r.replica N) r.n ++ components rs) (sent_one r.key r.replica P r.p each_row.0.1 p)
-      (all_append IsSent (above (place r.key r.replica N) r.n) (components rs) (sent_one r.key r.replica N r.n each_row.0.1 n) (sent_all rs (and_right (is_row r) _ are) each_row.1))
+      all_append IsSent (entry_above (place r.key r.replica P) r.p) (entry_above (place r.key r.replica N) r.n ++ components rs) (sent_one r.key r.replica P r.p each_row.0.1 p)
+      (all_append IsSent (entry_above (place r.key r.replica N) r.n) (components rs) (sent_one r.key r.replica N r.n each_row.0.1 n) (sent_all rs (and_right (is_row r) _ are) each_row.1))
 
   numbers_fit : (b : Ranks) (v : StateValue) → IsStateOf replicas v → IsAbove (coordinates v) b → AllByRecursion ClaimFits (each (number_claim b.number) (map.entries v.counts))
   numbers_fit b v is above_all =

@@ -26,7 +26,7 @@ use Rattle.rds_delta.proofs.LeastLaws.{grown_delta, least_above}
 use Rattle.rds_codec.specs.AnswerTexts.{IsAnswerOf, answer, answer_kind}
 use Rattle.rds_codec.specs.AnswerValues.{AnswerValue}
 use Rattle.rds_codec.specs.declared.limits.TheConstants.{LIMIT}
-use Rattle.rds_codec.specs.Decoding.{Answers, IsTextOf, Decodes}
+use Rattle.rds_codec.specs.Decoding.{GivesOrMemory, IsTextOf, Decodes}
 use Rattle.rds_codec.specs.DigestTexts.{DigestFits, IsDigestOf, digest_text, digest_kind}
 use Rattle.rds_codec.specs.Exchanged.{CanExchange, CanRead, IsAnswerTo, IsAskOf, IsCertified, IsLongAnswerIn, IsLongDigest, IsLost, IsRefusal, IsReplyIn, Untaken, replicas_of_both}
 use Rattle.rds_codec.specs.Kinds.{Kind}
@@ -40,20 +40,20 @@ use Rattle.rds_codec.proofs.Replicas.{state_fits}
 
 -- ---- a text of a value is read as it, unless memory runs out
 
-pub is_read : {V : Type 0} (kind : Kind V) (v : V) (bytes : List ℕ) (result : Result V Fault) → Decodes kind bytes result → kind.is_value v → bytes ≡ kind.text v → length (kind.text v) ≤ LIMIT → Answers result (Ok v)
+pub is_read : {V : Type 0} (kind : Kind V) (v : V) (bytes : List ℕ) (result : Result V Fault) → Decodes kind bytes result → kind.is_value v → bytes ≡ kind.text v → length (kind.text v) ≤ LIMIT → GivesOrMemory result (Ok v)
 is_read kind v bytes result decodes is e le = decodes.found v (subst (λ (t : List ℕ). length t ≤ LIMIT) (sym e) le) (record { is_value = is; spelled = e })
 
 -- the limit that bytes keep is kept by the text that they are
 pub within_text : (bytes text : List ℕ) → bytes ≡ text → length bytes ≤ LIMIT → length text ≤ LIMIT
 within_text bytes text e within = subst (λ (t : List ℕ). length t ≤ LIMIT) e within
 
-pub read_ok : {V : Type 0} (v : V) (result : Result V Fault) (Q : V → Type 0) → Answers result (Ok v) → Q v → IfOk result Q
+pub read_ok : {V : Type 0} (v : V) (result : Result V Fault) (Q : V → Type 0) → GivesOrMemory result (Ok v) → Q v → IfOk result Q
 read_ok {V} v result Q h q = elim h [
   | inl e ↦ subst (λ (r : Result V Fault). IfOk r Q) (sym e) q
   | inr e ↦ subst (λ (r : Result V Fault). IfOk r Q) (sym e) tt
 ]
 
-pub read_err : {V : Type 0} (v : V) (result : Result V Fault) (IsLong : Type 0) → Answers result (Ok v) → IfErr result (IsLost IsLong)
+pub read_err : {V : Type 0} (v : V) (result : Result V Fault) (IsLong : Type 0) → GivesOrMemory result (Ok v) → IfErr result (IsLost IsLong)
 read_err {V} v result IsLong h = elim h [
   | inl e ↦ subst (λ (r : Result V Fault). IfErr r (IsLost IsLong)) (sym e) tt
   | inr e ↦ subst (λ (r : Result V Fault). IfErr r (IsLost IsLong)) (sym e) (inl refl)

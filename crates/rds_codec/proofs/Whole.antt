@@ -13,7 +13,7 @@ use Rattle.rds_codec.specs.Laws.{StandApart}
 use Rattle.rds_bytes.specs.Reading.{◌>>=◌, Reader, Fails, Reads}
 use Rattle.rds_feeds.specs.declared.unfinished.Progress.{Progress}
 use Rattle.rds_feeds.specs.declared.unfinished.Progress.TheVariants.{More, Whole}
-use Rattle.rds_feeds.specs.Pieces.{ReadsOn, Refuses}
+use Rattle.rds_feeds.specs.Pieces.{ReadsOn, RefusesAlready}
 use Rattle.rds_bytes.proofs.Format.{IsBytes, IsFormat, Takes, CutOrBad, bind_ok, bind_err, chosen, err_is, ok_is, done, failed}
 
 -- The reader of a kind of text: what it reads is spelled so, what is spelled so within the limit is read,
@@ -178,7 +178,7 @@ module _ {U V : Type 0} (finish : U → Reader V) (u : U) (bytes : List ℕ) whe
   nothing_more : finish u bytes ≡ with_more []
   nothing_more = ap (finish u) (sym (append-nil bytes))
 
-  pub fed_refused : (e : Fault) → Refuses with_more e → Fails e (all_of (finish u) bytes)
+  pub fed_refused : (e : Fault) → RefusesAlready with_more e → Fails e (all_of (finish u) bytes)
   fed_refused e h = elim h [
     | inl m ↦ subst (λ (f : Fault). Fails f (all_of (finish u) bytes)) (sym m) tt
     | inr is ↦ is_failure e (all_of (finish u) bytes) (let got = nothing_more ∙ is.1 [] in rw got refl)

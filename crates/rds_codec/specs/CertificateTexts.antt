@@ -68,8 +68,8 @@ unfoldable pub amount_at : Reader ℕ
 amount_at = when_at is_count (number_at w64)
 
 -- which number, what was sent of it, and what the peer has
-unfoldable pub claim_at : Reader (Which × (ℕ × ℕ))
-claim_at = pair_at which_at (pair_at amount_at amount_at)
+unfoldable pub amounts_at : Reader (Which × (ℕ × ℕ))
+amounts_at = pair_at which_at (pair_at amount_at amount_at)
 
 abbrev pub CountParts : Type 0
 CountParts = (List ℕ × ℕ) × (Which × (ℕ × ℕ))
@@ -79,7 +79,7 @@ unfoldable pub counter_at : ℕ → Reader (List ℕ × ℕ)
 counter_at replicas = pair_at key_at (replica_at replicas)
 
 unfoldable pub number_claim_at : ℕ → Reader CountParts
-number_claim_at replicas = pair_at (counter_at replicas) claim_at
+number_claim_at replicas = pair_at (counter_at replicas) amounts_at
 
 abbrev pub live_by : Dot → Row
 live_by d = Live d
@@ -98,12 +98,12 @@ tagged_row_at replicas tag rest =
     else (if tag == 3 then made_at count_by (number_claim_at replicas) rest
     else Err Bad))
 
-unfoldable pub row_at : ℕ → Reader Row
-row_at replicas bytes = byte_at bytes >>= λ tag. tagged_row_at replicas tag.0 tag.1
+unfoldable pub certificate_row_at : ℕ → Reader Row
+certificate_row_at replicas bytes = byte_at bytes >>= λ tag. tagged_row_at replicas tag.0 tag.1
 
 -- rows in any order, whatever they claim
 unfoldable pub certificate_at : ℕ → Reader (List Row)
-certificate_at replicas = list_at (number_at w32) (λ _. row_at replicas)
+certificate_at replicas = list_at (number_at w32) (λ _. certificate_row_at replicas)
 
 -- ---- the certificates that have a text
 

@@ -24,8 +24,8 @@ pub record BeginsWithText {V : Type 0} (kind : Kind V) (bytes : List ℕ) : Type
   pub spelled : bytes ≡ kind.text value ++ rest
 
 -- the answer, unless memory ran out
-abbrev pub Answers : {V : Type 0} → Result V Fault → Result V Fault → Type 0
-Answers result wanted = (result ≡ wanted) ⊎ (result ≡ Err Memory)
+abbrev pub GivesOrMemory : {V : Type 0} → Result V Fault → Result V Fault → Type 0
+GivesOrMemory result wanted = (result ≡ wanted) ⊎ (result ≡ Err Memory)
 
 -- within the limit, what reading all of the bytes from the left gives, unless memory ran out
 abbrev pub ReadsAll : {V : Type 0} → Reader V → List ℕ → Result V Fault → Type 0
@@ -39,9 +39,9 @@ IsOtherFault e = (e ≡ Memory) ⊎ ((e ≡ TooLong) ⊎ ((e ≡ Extra) ⊎ ((e 
 -- text; else Cut or Bad, or memory ran out.
 pub record Decodes {V : Type 0} (kind : Kind V) (bytes : List ℕ) (result : Result V Fault) : Type 0 where
   pub value : IfOk result (λ v. (length bytes ≤ LIMIT) × IsTextOf kind bytes v)
-  pub found : (v : V) → length bytes ≤ LIMIT → IsTextOf kind bytes v → Answers result (Ok v)
+  pub found : (v : V) → length bytes ≤ LIMIT → IsTextOf kind bytes v → GivesOrMemory result (Ok v)
   pub long : LIMIT < length bytes → result ≡ Err TooLong
   pub long_only : result ≡ Err TooLong → LIMIT < length bytes
-  pub extra : length bytes ≤ LIMIT → BeginsWithText kind bytes → Answers result (Err Extra)
+  pub extra : length bytes ≤ LIMIT → BeginsWithText kind bytes → GivesOrMemory result (Err Extra)
   pub extra_only : result ≡ Err Extra → (length bytes ≤ LIMIT) × BeginsWithText kind bytes
   pub other : IfErr result IsOtherFault

@@ -6,7 +6,7 @@ use Rattle.rds_dots.specs.Runs.{runs_of}
 use Rattle.rds_life.specs.Life.{seen_of}
 use Rattle.rds_state.specs.Value.{StateValue}
 use Rattle.rds_bytes.specs.DotRows.{rows_from}
-use Rattle.rds_bytes.specs.Table.{number_of}
+use Rattle.rds_bytes.specs.Table.{table_number}
 use Rattle.rds_codec.specs.StateTexts.{keys_in, state_text_in, table_in}
 use Rattle.rds_codec.specs.declared.formats.Format.{Format}
 use Rattle.rds_codec.specs.declared.formats.Format.TheVariants.{One, Two}
@@ -23,7 +23,7 @@ format_with (Numbered n) = Two
 abbrev pub AreKeysOf : StateValue → Keys → Type 0
 AreKeysOf v Spelled = Unit {0}
 AreKeysOf v (Numbered n) =
-    (n.keys.items ≡ table_in v) × (n.numbers.items ≡ each (number_of (table_in v)) (keys_in v))
+    (n.keys.items ≡ table_in v) × (n.numbers.items ≡ each (table_number (table_in v)) (keys_in v))
 
 -- the keys, how many rows the seen dots have, and how long the text is
 pub record IsMeasured (v : StateValue) (m : Measured) : Type 0 where

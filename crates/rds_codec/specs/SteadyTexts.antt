@@ -5,7 +5,7 @@ use Rattle.rds_dots.specs.Dots.{Dots}
 use Rattle.rds_bytes.specs.Steady.{IsSteady}
 use Rattle.rds_bytes.specs.SteadyLaws.{agrees_bind, made_steady, then_steady, pair_steady, when_steady, chosen_steady, bad_steady, list_steady, byte_steady, number_steady}
 use Rattle.rds_bytes.specs.SteadyParts.{key_steady, replica_steady, member_steady, dots_steady, counters_steady}
-use Rattle.rds_codec.specs.CertificateTexts.{claimed_dot_at, ends_at, run_by, run_at, dead_at, which_by, which_at, amount_at, claim_at, counter_at, number_claim_at, live_by, dead_by, count_by, tagged_row_at, row_at, certificate_at}
+use Rattle.rds_codec.specs.CertificateTexts.{claimed_dot_at, ends_at, run_by, run_at, dead_at, which_by, which_at, amount_at, amounts_at, counter_at, number_claim_at, live_by, dead_by, count_by, tagged_row_at, certificate_row_at, certificate_at}
 use Rattle.rds_codec.specs.DigestTexts.{live_dots_at, digest_by, digest_at}
 use Rattle.rds_codec.specs.HelloTexts.{version_at, hello_by, hello_at}
 
@@ -35,8 +35,8 @@ amount_steady : IsSteady amount_at
 unfolding amount_at
 amount_steady = when_steady _ _ (number_steady w64)
 
-claim_steady : IsSteady claim_at
-unfolding claim_at
+claim_steady : IsSteady amounts_at
+unfolding amounts_at
 claim_steady = pair_steady _ _ which_steady (pair_steady _ _ amount_steady amount_steady)
 
 counter_steady : (replicas : ℕ) → IsSteady (counter_at replicas)
@@ -53,8 +53,8 @@ tagged_row_steady replicas tag =
     (chosen_steady (eqb tag 2) _ _ (made_steady dead_by _ (dead_steady replicas))
     (chosen_steady (eqb tag 3) _ _ (made_steady count_by _ (number_claim_steady replicas)) bad_steady))
 
-pub row_steady : (replicas : ℕ) → IsSteady (row_at replicas)
-unfolding row_at
+pub row_steady : (replicas : ℕ) → IsSteady (certificate_row_at replicas)
+unfolding certificate_row_at
 row_steady replicas bytes more = agrees_bind more _ _ (λ tag. tagged_row_at replicas tag.0 tag.1) (byte_steady bytes more) (λ tag rest. tagged_row_steady replicas tag rest more)
 
 pub certificate_steady : (replicas : ℕ) → IsSteady (certificate_at replicas)

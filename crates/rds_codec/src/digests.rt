@@ -34,7 +34,7 @@ impl<S: DotSet> Model for Marked<S> {
     ghost use Rattle.std.specs.Coded.{coded×};
     ghost use Rattle.rds_dots.specs.Dots.{Dots};
     ghost use Rattle.rds_delta.specs.Digested.{IsInside};
-    ghost use Rattle.rds_feeds.specs.SeenDots.{coded_dots};
+    ghost use Rattle.rds_life.specs.Code.{coded_dots};
 
     ghost Value = { Dots × Dots };
 

@@ -5,7 +5,7 @@ ghost use Rattle.rds_dots.specs.Runs.{runs_of};
 ghost use Rattle.rds_life.specs.Life.{live_rows, seen_of};
 ghost use Rattle.rds_bytes.specs.DotRows.{rows_from};
 ghost use Rattle.rds_bytes.specs.Numbers.{AreMeasured};
-ghost use Rattle.rds_bytes.specs.Table.{number_of};
+ghost use Rattle.rds_bytes.specs.Table.{table_number};
 ghost use Rattle.rds_bytes.specs.Writing.{Adds};
 ghost use Rattle.rds_codec.specs.StateTexts.{IsStateOf, keys_in, state_at_in, state_text_in, table_in};
 ghost use Rattle.rds_codec.specs.declared.formats.Format.TheVariants.{Two};
@@ -168,7 +168,7 @@ pub fn unfinished_two<S: DotSet>(alloc: Global, replicas: u16) -> UnfinishedTwo<
 pub fn number_state<S: DotSet>(alloc: Global, state: &State<S>) -> Result<NumberedKeys, Fault>
     ensures keys { IfOk result (λ numbered. numbered.keys.items ≡ table_in state.now) }
     ensures numbers { IfOk result (λ numbered. numbered.numbers.items
-        ≡ each (number_of (table_in state.now)) (keys_in state.now)) }
+        ≡ each (table_number (table_in state.now)) (keys_in state.now)) }
     ensures measured { IfOk result (λ numbered. AreMeasured numbered.lives_length (live_rows state.now.lives)) }
     ensures memory { IfErr result (λ fault. fault ≡ Memory) }
 {
@@ -205,7 +205,7 @@ pub fn put_two<S: DotSet>(
 ) -> Result<(), AllocError>
     requires rows { rows ≡ length (rows_from 0 (runs_of (seen_of state.now.lives))) }
     requires keys { numbered.now.keys.items ≡ table_in state.now }
-    requires numbers { numbered.now.numbers.items ≡ each (number_of (table_in state.now)) (keys_in state.now) }
+    requires numbers { numbered.now.numbers.items ≡ each (table_number (table_in state.now)) (keys_in state.now) }
     requires within { length (state_text_in Two state.now) ≤ LIMIT }
     ensures { Adds out.old.items out.new.items (state_text_in Two state.now) result }
 {

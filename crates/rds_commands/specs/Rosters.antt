@@ -9,7 +9,7 @@ use Rattle.rds_files.specs.Files.{KeptFile, ReplacedValue}
 use Rattle.rds_offline.specs.Copies.{InitsFrom}
 use Rattle.rds_world.specs.Coherent.{HasRosters}
 use Rattle.rds_world.specs.Replicas.{IsAskedIn, IsKeptIn, LeadsTo, grows}
-use Rattle.rds_world.specs.World.{World, Happening, Of, start}
+use Rattle.rds_world.specs.World.{World, Happening, Of, initial_world}
 use Rattle.rds_world.specs.declared.event.Event.TheVariants.{Crash, Save}
 use Rattle.rds_commands.specs.Changing.{merging_events}
 use Rattle.rds_commands.specs.Edits.{GrowsFile, InitsFile}
@@ -18,7 +18,7 @@ use Rattle.rds_commands.specs.Sessions.{LeavesFile}
 -- the file that is made for a name of a roster is that replica's in the world that starts with the roster
 abbrev pub InitsAreStarts : Type 0
 InitsAreStarts = (words : InitWords) (file : KeptFile) (answer : Reply) → InitsFile words file answer
-    → IsKeptIn (start file.kept.roster.names) file.kept
+    → IsKeptIn (initial_world file.kept.roster.names) file.kept
 
 -- the state has no component
 pub record HasNothing (v : ReplicaValue) : Type 0 where

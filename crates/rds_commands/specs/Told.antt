@@ -26,7 +26,7 @@ use Rattle.rds_names.specs.declared.fault.Fault.{Fault}
 use Rattle.rds_names.specs.declared.fault.Fault.TheVariants.{Device, Memory, Usage}
 use Rattle.rds_names.specs.Gives.{Refuses}
 use Rattle.rds_names.specs.Path.{path_of}
-use Rattle.rds_keep.specs.Parts.{AppendsFront, ConsumesAtMost, Grows}
+use Rattle.rds_keep.specs.Parts.{AppendsFront, ConsumesAtMost, BytesGrow}
 use Rattle.rds_lines.specs.Ahead.{most_given}
 use Rattle.rds_lines.specs.Answering.{WritesAnswers, WritesCut, WritesFront}
 use Rattle.rds_lines.specs.Streams.{NoneFailed, Stream, Emits}
@@ -310,4 +310,4 @@ AnswersMistake kinds before after status =
 -- the same, or a beginning of some text
 pub record TellsMistake (kinds : Kinds) (writing : Stream) (status : ℕ) : Type 0 where
   pub told : Emits (AnswersMistake kinds) writing status
-  pub part : Grows writing.before writing.after
+  pub part : BytesGrow writing.before writing.after

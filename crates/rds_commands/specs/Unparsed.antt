@@ -4,7 +4,7 @@ use Rattle.std.specs.Io.KnownBytes.{Appends}
 use Rattle.clap.specs.declared.error.kind.ErrorKind.{ErrorKind}
 use Rattle.clap.specs.declared.error.kind.ErrorKind.TheVariants.{DisplayHelp, DisplayVersion, OutOfMemory}
 use Rattle.rds_names.specs.declared.fault.Fault.TheVariants.{Memory, Usage}
-use Rattle.rds_keep.specs.Parts.{Grows}
+use Rattle.rds_keep.specs.Parts.{BytesGrow}
 use Rattle.rds_output.specs.Output.{Writes, fault_line}
 
 -- the status where the words gave no task: help or the version was asked for, memory ran out, or they are none of the
@@ -23,6 +23,6 @@ AppendsBehind old new bytes = (text : List ℕ) × Appends old new (bytes ++ tex
 -- text, behind the line of `Usage` where the words are none of the program's
 abbrev pub WritesUnparsed : ErrorKind → Option (List ℕ) → Option (List ℕ) → ℕ → Type 0
 WritesUnparsed OutOfMemory before after status = Writes (Err Memory) before after status
-WritesUnparsed DisplayHelp before after status = Grows before after × (status ≡ 0)
-WritesUnparsed DisplayVersion before after status = Grows before after × (status ≡ 0)
+WritesUnparsed DisplayHelp before after status = BytesGrow before after × (status ≡ 0)
+WritesUnparsed DisplayVersion before after status = BytesGrow before after × (status ≡ 0)
 WritesUnparsed _ before after status = AppendsBehind before after (fault_line Usage) × (status ≡ 2)

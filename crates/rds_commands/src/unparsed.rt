@@ -4,7 +4,7 @@ ghost use Rattle.clap.specs.Words.{kind_of};
 ghost use Rattle.rds_names.specs.declared.fault.Fault.TheVariants.{Memory, Usage};
 ghost use Rattle.rds_keep.specs.Counted.{one_more};
 ghost use Rattle.rds_lines.specs.Streams.{Emits, stream_of};
-ghost use Rattle.rds_keep.specs.Parts.{AppendsFront, Grows};
+ghost use Rattle.rds_keep.specs.Parts.{AppendsFront, BytesGrow};
 ghost use Rattle.rds_output.specs.Output.{AnswersStatus, fault_line};
 ghost use Rattle.rds_commands.specs.Unparsed.{AppendsBehind, WritesUnparsed, unparsed_status};
 
@@ -30,7 +30,7 @@ pub fn write_unparsed<H: Disk, W: Write, S: AsStr>(
     ensures written { Emits (WritesUnparsed (kind_of error.now)) (stream_of W.contents writer.old writer.new) result }
     ensures part { kind_of error.now ≡ ErrorKind.OutOfMemory
         → AppendsFront (W.contents writer.old.inner) (W.contents writer.new.inner) (fault_line Memory) }
-    ensures kept { Grows (W.contents writer.old.inner) (W.contents writer.new.inner) }
+    ensures kept { BytesGrow (W.contents writer.old.inner) (W.contents writer.new.inner) }
     ensures status { AnswersStatus writer.old writer.new (unparsed_status (kind_of error.now)) result }
     ensures within { result ≤ 2 }
 {
@@ -56,7 +56,7 @@ fn write_usage<W: Write>(
 ) -> Result<(), Fault>
     ensures bytes { OnOk result (AppendsBehind (W.contents writer.old.inner)
         (W.contents writer.new.inner) (fault_line Usage)) }
-    ensures kept { Grows (W.contents writer.old.inner) (W.contents writer.new.inner) }
+    ensures kept { BytesGrow (W.contents writer.old.inner) (W.contents writer.new.inner) }
     ensures steady { OnOk result (writer.new.failed ≡ writer.old.failed) }
     ensures counted { OnErr result (writer.new.failed ≡ one_more writer.old.failed) }
 {
@@ -71,7 +71,7 @@ fn write_text<W: Write>(
     writer: &mut Counted<W>,
     error: &Error,
 ) -> Result<(), Fault>
-    ensures bytes { Grows (W.contents writer.old.inner) (W.contents writer.new.inner) }
+    ensures bytes { BytesGrow (W.contents writer.old.inner) (W.contents writer.new.inner) }
     ensures steady { OnOk result (writer.new.failed ≡ writer.old.failed) }
     ensures counted { OnErr result (writer.new.failed ≡ one_more writer.old.failed) }
 {

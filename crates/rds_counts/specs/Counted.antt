@@ -35,14 +35,16 @@ abbrev pub place : List ℕ → ℕ → Which → Place
 place key replica which = record { key = key; replica = replica; which = which }
 
 -- an entry for a number above 0, and none for 0
-abbrev pub above : Place → ℕ → List (Place × Above)
-above q zero = []
-above q (suc n) = (q, record { before = n }) ∷ []
+abbrev pub entry_above : Place → ℕ → List (Place × Above)
+entry_above q zero = []
+entry_above q (suc n) = (q, record { before = n }) ∷ []
 
 -- the numbers above 0 of rows, in order
 abbrev pub components : List CountRow → List (Place × Above)
 components [] = []
-components (r ∷ rows) = above (place r.key r.replica P) r.p ++ (above (place r.key r.replica N) r.n ++ components rows)
+components (r ∷ rows) =
+    entry_above (place r.key r.replica P) r.p
+    ++ (entry_above (place r.key r.replica N) r.n ++ components rows)
 
 -- the counters that rows say
 abbrev pub counts_of : List CountRow → Counted
@@ -62,14 +64,14 @@ rows_rise [] = true
 rows_rise (r ∷ rows) = list_all (λ s. is_lt (row_cmp r s)) rows && rows_rise rows
 
 -- the row comes before the next one
-abbrev pub before_next : CountRow → List CountRow → Bool
-before_next r [] = true
-before_next r (s ∷ rows) = is_lt (row_cmp r s)
+abbrev pub row_before_next : CountRow → List CountRow → Bool
+row_before_next r [] = true
+row_before_next r (s ∷ rows) = is_lt (row_cmp r s)
 
 -- the same as below, by one look from each row to the next
 abbrev pub rows_fit : List CountRow → Bool
 rows_fit [] = true
-rows_fit (r ∷ rows) = is_row r && before_next r rows && rows_fit rows
+rows_fit (r ∷ rows) = is_row r && row_before_next r rows && rows_fit rows
 
 -- one of two numbers
 abbrev pub number_in_pair : Which → ℕ × ℕ → ℕ
@@ -94,12 +96,12 @@ abbrev from_p : Bool → Which
 from_p true = P
 from_p Bool.false = N
 
-abbrev back : (w : Which) → from_p (is_p w) ≡ w
-back P = refl
-back N = refl
+abbrev back_to_which : (w : Which) → from_p (is_p w) ≡ w
+back_to_which P = refl
+back_to_which N = refl
 
 abbrev pub coded_which : Coded Which
-coded_which = code_by Bool coded_bool is_p from_p back
+coded_which = code_by Bool coded_bool is_p from_p back_to_which
 
 abbrev pub coded_place : Coded Place
 coded_place = code_by (List ℕ × (ℕ × Which)) (coded× (coded_list coded_ℕ) (coded× coded_ℕ coded_which)) (λ q. (q.key, (q.replica, q.which))) (λ p. record { key = p.0; replica = p.1.0; which = p.1.1 }) (λ _. refl)

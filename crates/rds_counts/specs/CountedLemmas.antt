@@ -16,8 +16,8 @@ use Rattle.rds_counts.specs.declared.row.Which.TheVariants.{P, N}
 use Rattle.rds_counts.specs.declared.row.CountRow.{CountRow}
 use Rattle.rds_counts.specs.Place.{Place, place_cmp, index_of}
 use Rattle.rds_counts.specs.PlaceOrder.{place_total, place_exact}
-use Rattle.rds_counts.specs.Counted.{Above, Counted, number, number_from, place, above, components, counts_of, row_cmp}
-use Rattle.rds_counts.specs.Counted.{is_row, rows_rise, before_next, rows_fit, pair_of, number_in_pair, AreCountRows}
+use Rattle.rds_counts.specs.Counted.{Above, Counted, number, number_from, place, entry_above, components, counts_of, row_cmp}
+use Rattle.rds_counts.specs.Counted.{is_row, rows_rise, row_before_next, rows_fit, pair_of, number_in_pair, AreCountRows}
 
 pub row_total : IsTotalOrder row_cmp
 row_total = then_total (on_total (λ (r : CountRow). r.key) nat_list_cmp_total) (on_total (λ (r : CountRow). r.replica) nat_cmp_total)
@@ -26,19 +26,19 @@ before_trans : (r s : CountRow) → row_cmp r s ≡ Less → (rows : List CountR
 before_trans r s is [] all = refl
 before_trans r s is (t ∷ rows) all = and_true _ _ (ap is_lt (row_total.trans r s t is (less_of _ (and_left (is_lt (row_cmp s t)) _ all)))) (before_trans r s is rows (and_right (is_lt (row_cmp s t)) _ all))
 
-before_all : (r : CountRow) (rows : List CountRow) → before_next r rows ≡ true → rows_rise rows ≡ true → list_all (λ t. is_lt (row_cmp r t)) rows ≡ true
+before_all : (r : CountRow) (rows : List CountRow) → row_before_next r rows ≡ true → rows_rise rows ≡ true → list_all (λ t. is_lt (row_cmp r t)) rows ≡ true
 before_all r [] next rise = refl
 before_all r (s ∷ rows) next rise = and_true _ _ next (before_trans r s (less_of _ next) rows (and_left _ (rows_rise rows) rise))
 
-pub all_before : (r : CountRow) (rows : List CountRow) → list_all (λ t. is_lt (row_cmp r t)) rows ≡ true → before_next r rows ≡ true
+pub all_before : (r : CountRow) (rows : List CountRow) → list_all (λ t. is_lt (row_cmp r t)) rows ≡ true → row_before_next r rows ≡ true
 all_before r [] all = refl
 all_before r (s ∷ rows) all = and_left _ (list_all (λ t. is_lt (row_cmp r t)) rows) all
 
 pub fits_rows : (rows : List CountRow) → rows_fit rows ≡ true → AreCountRows rows
 fits_rows [] fit = record { rise = refl; are = refl }
 fits_rows (r ∷ rows) fit =
-    let front = and_left (is_row r && before_next r rows) _ fit in
-    let later = fits_rows rows (and_right (is_row r && before_next r rows) _ fit) in
+    let front = and_left (is_row r && row_before_next r rows) _ fit in
+    let later = fits_rows rows (and_right (is_row r && row_before_next r rows) _ fit) in
     record {
       rise = and_true _ _ (before_all r rows (and_right (is_row r) _ front) later.rise) later.rise;
       are = and_true _ _ (and_left (is_row r) _ front) later.are;
@@ -67,7 +67,7 @@ cond_suc true n m = refl
 cond_suc false n m = refl
 
 -- the number that an entry adds
-pub number-above : (q x : Place) (n : ℕ) (es : List (Place × Above)) → number_from (map.find place_cmp q (above x n ++ es)) ≡ cond (eq_by_cmp place_cmp q x && some n) n (number_from (map.find place_cmp q es))
+pub number-above : (q x : Place) (n : ℕ) (es : List (Place × Above)) → number_from (map.find place_cmp q (entry_above x n ++ es)) ≡ cond (eq_by_cmp place_cmp q x && some n) n (number_from (map.find place_cmp q es))
 number-above q x zero es = cond_zero (eq_by_cmp place_cmp q x) _
 number-above q x (suc n) es = number-cond (eq_by_cmp place_cmp q x) n _ ∙ cond_suc (eq_by_cmp place_cmp q x) n _
 
@@ -84,8 +84,8 @@ number_past r w [] all = refl
 number_past r w (s ∷ rows) all =
     let is : row_cmp r s ≡ Less = less_of _ (and_left (is_lt (row_cmp r s)) _ all) in
     let apart : (v : Which) → eq_by_cmp place_cmp (place r.key r.replica w) (place s.key s.replica v) ≡ false = λ v. ap is_eq (then_less (slice_cmp nat_cmp r.key s.key) (nat_cmp r.replica s.replica) _ is) in
-    number-above (place r.key r.replica w) (place s.key s.replica P) s.p (above (place s.key s.replica N) s.n ++ components rows)
-    ∙ ap (λ b. cond (b && some s.p) s.p (number_from (map.find place_cmp (place r.key r.replica w) (above (place s.key s.replica N) s.n ++ components rows)))) (apart P)
+    number-above (place r.key r.replica w) (place s.key s.replica P) s.p (entry_above (place s.key s.replica N) s.n ++ components rows)
+    ∙ ap (λ b. cond (b && some s.p) s.p (number_from (map.find place_cmp (place r.key r.replica w) (entry_above (place s.key s.replica N) s.n ++ components rows)))) (apart P)
     ∙ number-above (place r.key r.replica w) (place s.key s.replica N) s.n (components rows)
     ∙ ap (λ b. cond (b && some s.n) s.n (number_from (map.find place_cmp (place r.key r.replica w) (components rows)))) (apart N)
     ∙ number_past r w rows (and_right (is_lt (row_cmp r s)) _ all)
@@ -95,7 +95,7 @@ number_in rows q = number_from (map.find place_cmp q (components rows))
 
 pub number-row : (q : Place) (r : CountRow) (rows : List CountRow) → number_in (r ∷ rows) q ≡ cond (eq_by_cmp place_cmp q (place r.key r.replica P) && some r.p) r.p (cond (eq_by_cmp place_cmp q (place r.key r.replica N) && some r.n) r.n (number_in rows q))
 number-row q r rows =
-    number-above q (place r.key r.replica P) r.p (above (place r.key r.replica N) r.n ++ components rows)
+    number-above q (place r.key r.replica P) r.p (entry_above (place r.key r.replica N) r.n ++ components rows)
     ∙ ap (cond (eq_by_cmp place_cmp q (place r.key r.replica P) && some r.p) r.p) (number-above q (place r.key r.replica N) r.n (components rows))
 
 own_p : (a b : Bool) (p n rest : ℕ) → a ≡ true → b ≡ false → rest ≡ 0 → cond (a && some p) p (cond (b && some n) n rest) ≡ p

@@ -13,11 +13,11 @@ use Rattle.rds_counts.specs.declared.row.Which.TheVariants.{P, N}
 use Rattle.rds_counts.specs.declared.row.CountRow.{CountRow}
 use Rattle.rds_counts.specs.Place.{Place, place_cmp}
 use Rattle.rds_counts.specs.PlaceOrder.{place_total, place_exact}
-use Rattle.rds_counts.specs.Counted.{Above, place, above, components, counts_of, row_cmp, rows_rise}
+use Rattle.rds_counts.specs.Counted.{Above, place, entry_above, components, counts_of, row_cmp, rows_rise}
 use Rattle.rds_counts.specs.CountedLemmas.{then_less}
 use Rattle.rds_names.specs.Conditions.{and_true, and_left, and_right, less_of}
 
-below_above : (q x : Place) (n : ℕ) (es : List (Place × Above)) → is_lt (place_cmp q x) ≡ true → below_all place_cmp q es ≡ true → below_all place_cmp q (above x n ++ es) ≡ true
+below_above : (q x : Place) (n : ℕ) (es : List (Place × Above)) → is_lt (place_cmp q x) ≡ true → below_all place_cmp q es ≡ true → below_all place_cmp q (entry_above x n ++ es) ≡ true
 below_above q x zero es lt all = all
 below_above q x (suc n) es lt all = and_true _ _ lt all
 
@@ -28,7 +28,7 @@ below_rows r w (s ∷ rows) all =
     let lt : (v : Which) → is_lt (place_cmp (place r.key r.replica w) (place s.key s.replica v)) ≡ true = λ v. ap is_lt (then_less (slice_cmp nat_cmp r.key s.key) (nat_cmp r.replica s.replica) _ is) in
     below_above (place r.key r.replica w) (place s.key s.replica P) s.p _ (lt P) (below_above (place r.key r.replica w) (place s.key s.replica N) s.n _ (lt N) (below_rows r w rows (and_right (is_lt (row_cmp r s)) _ all)))
 
-sorted_above : (x : Place) (n : ℕ) (es : List (Place × Above)) → below_all place_cmp x es ≡ true → is_sorted place_cmp es ≡ true → is_sorted place_cmp (above x n ++ es) ≡ true
+sorted_above : (x : Place) (n : ℕ) (es : List (Place × Above)) → below_all place_cmp x es ≡ true → is_sorted place_cmp es ≡ true → is_sorted place_cmp (entry_above x n ++ es) ≡ true
 sorted_above x zero es all rise = rise
 sorted_above x (suc n) es all rise = and_true _ _ all rise
 

@@ -10,14 +10,14 @@ use Rattle.std.specs.Prelude.{nat_le}
 use Rattle.rds_counts.specs.declared.row.CountRow.{CountRow}
 use Rattle.rds_counts.specs.declared.row.TheConstants.{MAX_COUNT}
 use Rattle.rds_counts.specs.Place.{Place}
-use Rattle.rds_counts.specs.Counted.{Above, place, above, components, counts_of, row_cmp, is_row, rows_rise}
-use Rattle.rds_counts.specs.Counted.{before_next, AreCountRows}
+use Rattle.rds_counts.specs.Counted.{Above, place, entry_above, components, counts_of, row_cmp, is_row, rows_rise}
+use Rattle.rds_counts.specs.Counted.{row_before_next, AreCountRows}
 use Rattle.rds_counts.specs.CountedLemmas.{row_total, all_before}
 use Rattle.rds_names.specs.Conditions.{and_left, and_right, less_of}
 use Rattle.rds_counts.specs.Entries.{entries-counts_of}
 use Rattle.rds_counts.specs.RowsOf.{row_at, both, with_row, rows_of, count_rows}
 
-with_before : (r : CountRow) (rows : List CountRow) → before_next r rows ≡ true → with_row r rows ≡ r ∷ rows
+with_before : (r : CountRow) (rows : List CountRow) → row_before_next r rows ≡ true → with_row r rows ≡ r ∷ rows
 with_before r [] next = refl
 with_before r (s ∷ rows) next = ap (λ o. cond (is_eq o) (both r s ∷ rows) (r ∷ s ∷ rows)) (less_of (row_cmp r s) next)
 
@@ -29,7 +29,7 @@ with_own r s rows k i =
 row_parts : (k : List ℕ) (i a b p n : ℕ) → a ≡ p → b ≡ n → (let r : CountRow = record { key = k; replica = i; p = a; n = b } in r) ≡ (let r : CountRow = record { key = k; replica = i; p = p; n = n } in r)
 row_parts k i a b p n e f = rw (e, f) refl
 
-one_row : (k : List ℕ) (i p n : ℕ) (es : List (Place × Above)) (rows : List CountRow) → rows_of es ≡ rows → (nat_lt 0 p || nat_lt 0 n) ≡ true → before_next (record { key = k; replica = i; p = p; n = n }) rows ≡ true → rows_of (above (place k i P) p ++ (above (place k i N) n ++ es)) ≡ (let r : CountRow = record { key = k; replica = i; p = p; n = n } in r) ∷ rows
+one_row : (k : List ℕ) (i p n : ℕ) (es : List (Place × Above)) (rows : List CountRow) → rows_of es ≡ rows → (nat_lt 0 p || nat_lt 0 n) ≡ true → row_before_next (record { key = k; replica = i; p = p; n = n }) rows ≡ true → rows_of (entry_above (place k i P) p ++ (entry_above (place k i N) n ++ es)) ≡ (let r : CountRow = record { key = k; replica = i; p = p; n = n } in r) ∷ rows
 one_row k i zero zero es rows is has next = absurd (false≢true has)
 one_row k i zero (suc n) es rows is has next =
     ap (with_row (row_at (place k i N) (n + 1))) is ∙ with_before (row_at (place k i N) (n + 1)) rows next ∙ ap (λ r. r ∷ rows) (row_parts k i 0 (n + 1) 0 (suc n) refl (omega arith))

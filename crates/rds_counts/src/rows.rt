@@ -4,8 +4,8 @@ ghost use Rattle.std.specs.Prelude.{MatchResult, length, ◌++◌, ◌∷◌, []
 ghost use Rattle.std.specs.List.Sorted.{IsBinarySearchResult, IsSearchInRange};
 ghost use Rattle.rds_names.specs.declared.fault.Fault.TheVariants.{Memory, CounterFull};
 ghost use Rattle.rds_counts.specs.Place.{Place};
-ghost use Rattle.rds_counts.specs.Counted.{components, above, counts_of, AreCountRows, is_row as within_row, rows_fit};
-ghost use Rattle.rds_counts.specs.Counted.{before_next, pair_of, number_in_pair};
+ghost use Rattle.rds_counts.specs.Counted.{components, entry_above, counts_of, AreCountRows, is_row as within_row, rows_fit};
+ghost use Rattle.rds_counts.specs.Counted.{row_before_next, pair_of, number_in_pair};
 ghost use Rattle.rds_counts.specs.Drawn.{greatest_rows};
 ghost use Rattle.rds_counts.specs.Raised.{row_of, pair_raised};
 ghost use Rattle.rds_counts.specs.Value.{total, first_total};
@@ -44,7 +44,7 @@ fn is_row(row: &CountRow) -> bool
 }
 
 fn is_before(row: &CountRow, rows: &[CountRow]) -> bool
-    ensures { result ≡ before_next row.now rows.now }
+    ensures { result ≡ row_before_next row.now rows.now }
 {
     match rows.first() {
         Some(next) => row
@@ -215,7 +215,7 @@ pub fn numbers_above(rows: &[CountRow]) -> u128
 
 /// 1 for a number above 0, and 0 for 0.
 fn is_above(number: u64) -> u128
-    ensures same { (q : Place) → result ≡ length (above q number) }
+    ensures same { (q : Place) → result ≡ length (entry_above q number) }
     ensures small { result ≤ 1 }
 {
     if number > 0 { 1 } else { 0 }

@@ -26,7 +26,7 @@ use Rattle.rds_delta.specs.Claims.{OfLive, OfDead, claim_at, life_claim, spread,
 use Rattle.rds_delta.specs.Grouped.{dead_front, front, grouped_onto}
 use Rattle.rds_delta.proofs.Grouping.{rows_of_claims-append, row_onto}
 use Rattle.rds_delta.specs.Next.{IsGap, IsNextLive, IsNextDead}
-use Rattle.rds_delta.specs.Rest.{after_of, rows_after, is_flat}
+use Rattle.rds_delta.specs.Rest.{after_of, claims_after, is_flat}
 
 to_T : (b : Bool) → b ≡ true → T b
 to_T b h = subst T (sym h) tt
@@ -158,7 +158,7 @@ stops_list v after peer r p next last (e ∷ es) is more flat = by_life e.1 refl
         next.ends (ap (map.get v) (sym at) ∙ first_after v last e es is ∙ ap Some h) (ap peer (sym at) ∙ sym b))
 
 -- the steps of a certificate's dot rows
-pub step_none : (peer : Dot → ℕ) (v : Lived) (after : Option Dot) (more : List Row) → ((d : Dot) → comes_after after d ≡ true → map.get v d ≡ None) → rows_after peer v after more ≡ more
+pub step_none : (peer : Dot → ℕ) (v : Lived) (after : Option Dot) (more : List Row) → ((d : Dot) → comes_after after d ≡ true → map.get v d ≡ None) → claims_after peer v after more ≡ more
 step_none peer v after more none = ap (λ es. grouped_onto (each (life_claim peer) es) more) (after_none v after none)
 
 is_some_live : (o : Option Life) → is_some (entry_of o) ≡ true → (l : Life) × (o ≡ Some l) × ((d : Dot) (k : ℕ) → claim_at d k l ≡ OfLive d)
@@ -166,21 +166,21 @@ is_some_live None h = absurd (false≢true h)
 is_some_live (Some (Live e)) h = (Live e, refl, λ d k. refl)
 is_some_live (Some Dead) h = absurd (false≢true h)
 
-pub step_live : (peer : Dot → ℕ) (v : Lived) (after : Option Dot) (d : Dot) (p : ℕ) (more : List Row) → IsNextLive peer v after d p → rows_after peer v after more ≡ rows.Live d ∷ rows_after peer v (Some d) more
+pub step_live : (peer : Dot → ℕ) (v : Lived) (after : Option Dot) (d : Dot) (p : ℕ) (more : List Row) → IsNextLive peer v after d p → claims_after peer v after more ≡ rows.Live d ∷ claims_after peer v (Some d) more
 step_live peer v after d p more next =
     let l = is_some_live (map.get v d) next.live in
     ap (λ es. grouped_onto (each (life_claim peer) es) more) (after_next v after d l.0 l.1 next.follows next.gap)
-    ∙ ap (λ c. front c (rows_after peer v (Some d) more)) (l.2 d (peer d))
+    ∙ ap (λ c. front c (claims_after peer v (Some d) more)) (l.2 d (peer d))
 
 full_le : (a b : ℕ) → a ≤ b → nat_le a b ≡ true
 full_le a b h = grind (arith, nat_tests)
 
-pub step_dead : (peer : Dot → ℕ) (v : Lived) (after : Option Dot) (r : Run) (p : ℕ) (more : List Row) → is_flat more ≡ true → IsNextDead peer v after r p → rows_after peer v after more ≡ rows.Dead r p ∷ rows_after peer v (Some (last_of r)) more
+pub step_dead : (peer : Dot → ℕ) (v : Lived) (after : Option Dot) (r : Run) (p : ℕ) (more : List Row) → is_flat more ≡ true → IsNextDead peer v after r p → claims_after peer v after more ≡ rows.Dead r p ∷ claims_after peer v (Some (last_of r)) more
 step_dead peer v after r p more flat next =
     let rises = next.is_run.rises in
     let end : r.lo + (r.hi + 1 - r.lo) ≡ r.hi + 1 = omega arith in
     ap (λ es. grouped_onto (each (life_claim peer) es) more) (after_dead v after peer r p next)
     ∙ ap (λ cs. grouped_onto cs more) (each_dead peer p r.replica r.lo (r.hi + 1 - r.lo) (after_of (Some (last_of r)) v) (λ m a b. next.rank m a (omega arith)))
     ∙ rows_of_claims-append (spread (rows.Dead r p)) (each (life_claim peer) (after_of (Some (last_of r)) v)) more
-    ∙ row_onto (rows.Dead r p) (rows_after peer v (Some (last_of r)) more) (full_le r.lo r.hi rises)
+    ∙ row_onto (rows.Dead r p) (claims_after peer v (Some (last_of r)) more) (full_le r.lo r.hi rises)
     (stops_list v after peer r p next (Some (last_of r)) (after_of (Some (last_of r)) v) refl more flat)

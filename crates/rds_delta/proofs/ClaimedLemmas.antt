@@ -19,12 +19,12 @@ use Rattle.rds_delta.specs.declared.row.Row.{Row}
 use Rattle.rds_delta.specs.declared.step.DotRow.{DotRow}
 use Rattle.rds_delta.specs.declared.step.DotRow.TheVariants as dots
 use Rattle.rds_delta.specs.Next.{IsNextRow}
-use Rattle.rds_delta.specs.Rest.{after_of, rows_after, is_flat, row_of}
+use Rattle.rds_delta.specs.Rest.{after_of, claims_after, is_flat, certified_row}
 use Rattle.rds_delta.specs.Claimed.{row_above, end_of, IsAboveAt, IsClaimedTo, IsClaimed, IsUnclaimed}
 use Rattle.rds_delta.proofs.AfterLemmas.{after_next, after_dead, step_none, step_live, step_dead}
 
 -- what the next row is
-pub step_rows : (peer : Dot → ℕ) (v : Lived) (after : Option Dot) (next : DotRow) → IsNextRow peer v after (Some next) → (more : List Row) → is_flat more ≡ true → rows_after peer v after more ≡ row_of next ∷ rows_after peer v (Some (end_of next)) more
+pub step_rows : (peer : Dot → ℕ) (v : Lived) (after : Option Dot) (next : DotRow) → IsNextRow peer v after (Some next) → (more : List Row) → is_flat more ≡ true → claims_after peer v after more ≡ certified_row next ∷ claims_after peer v (Some (end_of next)) more
 step_rows peer v after (dots.Live d p) is more flat = step_live peer v after d p more is
 step_rows peer v after (dots.Dead r p) is more flat = step_dead peer v after r p more flat is
 
@@ -73,13 +73,13 @@ tail_of [] = []
 tail_of (r ∷ rs) = rs
 
 -- a row that is the next one
-pub claim_step : (peer : Dot → ℕ) (v : Lived) (rows : List Row) (after : Option Dot) (next : DotRow) (later : List Row) → IsNextRow peer v after (Some next) → row_above next ≡ true → IsClaimedTo peer v rows after (row_of next ∷ later) → IsClaimedTo peer v rows (Some (end_of next)) later
+pub claim_step : (peer : Dot → ℕ) (v : Lived) (rows : List Row) (after : Option Dot) (next : DotRow) (later : List Row) → IsNextRow peer v after (Some next) → row_above next ≡ true → IsClaimedTo peer v rows after (certified_row next ∷ later) → IsClaimedTo peer v rows (Some (end_of next)) later
 unfolding tail_of
 claim_step peer v rows after next later is above to = record {
   above = λ d ends. by_after d ends (comes_after after d) refl;
   left = λ more flat.
       let e = step_rows peer v after next is more flat in
-      (λ h. ap tail_of ((to.left more flat).0 h ∙ e), λ h. (to.left more flat).1 (ap (λ rs. row_of next ∷ rs) h ∙ sym e));
+      (λ h. ap tail_of ((to.left more flat).0 h ∙ e), λ h. (to.left more flat).1 (ap (λ rs. certified_row next ∷ rs) h ∙ sym e));
 }
   where
     by_after : (d : Dot) → comes_after (Some (end_of next)) d ≡ false → (b : Bool) → comes_after after d ≡ b → IsAboveAt peer v d
@@ -87,8 +87,8 @@ claim_step peer v rows after next later is above to = record {
     by_after d ends false comes = to.above d comes
 
 -- rows that don't begin with the next one
-pub claim_other : (peer : Dot → ℕ) (v : Lived) (rows : List Row) (after : Option Dot) (next : DotRow) (rest : List Row) → IsNextRow peer v after (Some next) → IsClaimedTo peer v rows after rest → ((later : List Row) → rest ≡ row_of next ∷ later → ⊥) → IsUnclaimed peer v rows
-claim_other peer v rows after next rest is to other = record { fails = λ above more flat h. other (rows_after peer v (Some (end_of next)) more) ((to.left more flat).0 h ∙ step_rows peer v after next is more flat) }
+pub claim_other : (peer : Dot → ℕ) (v : Lived) (rows : List Row) (after : Option Dot) (next : DotRow) (rest : List Row) → IsNextRow peer v after (Some next) → IsClaimedTo peer v rows after rest → ((later : List Row) → rest ≡ certified_row next ∷ later → ⊥) → IsUnclaimed peer v rows
+claim_other peer v rows after next rest is to other = record { fails = λ above more flat h. other (claims_after peer v (Some (end_of next)) more) ((to.left more flat).0 h ∙ step_rows peer v after next is more flat) }
 
 -- no more dots
 pub claim_end : (peer : Dot → ℕ) (v : Lived) (rows : List Row) (after : Option Dot) (rest : List Row) → IsNextRow peer v after None → IsClaimedTo peer v rows after rest → IsClaimed peer v rows rest

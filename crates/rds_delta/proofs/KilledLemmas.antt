@@ -11,7 +11,7 @@ use Rattle.rds_dots.specs.declared.dot.Run.{Run}
 use Rattle.rds_dots.specs.declared.dot.TheConstants.{MAX_SEQ}
 use Rattle.rds_dots.specs.Dots.{Dots, in_run, first_of, comes_after}
 use Rattle.rds_dots.specs.Lacking.{dot_of}
-use Rattle.rds_dots.specs.Runs.{place}
+use Rattle.rds_dots.specs.Runs.{dot_place}
 use Rattle.rds_life.specs.Life.{Lived, is_dead}
 use Rattle.rds_delta.specs.DeadParts.{IsDeadTo}
 use Rattle.rds_delta.specs.Parts.{IsNextPart, IsPartAfter}
@@ -29,7 +29,7 @@ pub record AreKilledTo (v : Lived) (live : Dots) (after : Option Dot) (killed : 
 -- how many places are left after a dot
 abbrev pub places_after : Option Dot → ℕ
 places_after None = 256 * (MAX_SEQ + 1)
-places_after (Some d) = 256 * (MAX_SEQ + 1) - place d.replica d.seq
+places_after (Some d) = 256 * (MAX_SEQ + 1) - dot_place d.replica d.seq
 
 abbrev pub part_to : Run → ℕ → Run
 part_to r hi = record { replica = r.replica; lo = r.lo; hi = hi }

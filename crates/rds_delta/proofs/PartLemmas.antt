@@ -12,7 +12,7 @@ use Rattle.rds_dots.specs.declared.dot.Run.{Run}
 use Rattle.rds_dots.specs.declared.dot.TheConstants.{MAX_SEQ}
 use Rattle.rds_dots.specs.Dots.{Dots, is_dot, last_of, comes_after}
 use Rattle.rds_dots.specs.Lacking.{dot_of, IsNextRun}
-use Rattle.rds_dots.specs.Runs.{place, runs_of, first_after, AreRuns}
+use Rattle.rds_dots.specs.Runs.{dot_place, runs_of, first_after, AreRuns}
 use Rattle.rds_dots.specs.RunFacts.{has, covers_is}
 use Rattle.rds_dots.specs.RunsOf.{are_runs}
 use Rattle.rds_dots.specs.Sets.{dot_limits}
@@ -139,5 +139,5 @@ module _ (s : Dots) (dots : (d : Dot) → set.contains s d ≡ true → is_dot d
               false≢true (sym (q.before d.seq in_it.0 in_it.1) ∙ ap (λ x. comes_after after (dot_of x d.seq)) (sym same) ∙ comes));
         }
       where
-        place_is : (a hi : ℕ) → place a (hi + 1) ≡ place a hi + 1
+        place_is : (a hi : ℕ) → dot_place a (hi + 1) ≡ dot_place a hi + 1
         place_is a hi = omega arith

@@ -10,7 +10,7 @@ use Rattle.rds_counts.specs.declared.row.Which.TheVariants.{P, N}
 use Rattle.rds_counts.specs.declared.row.CountRow.{CountRow}
 use Rattle.rds_counts.specs.Place.{Place, place_cmp}
 use Rattle.rds_counts.specs.PlaceOrder.{place_exact}
-use Rattle.rds_counts.specs.Counted.{Above, number, place, above, components, counts_of, row_cmp, rows_rise}
+use Rattle.rds_counts.specs.Counted.{Above, number, place, entry_above, components, counts_of, row_cmp, rows_rise}
 use Rattle.rds_counts.specs.Counted.{AreCountRows}
 use Rattle.rds_counts.specs.CountedLemmas.{some, number_in, number_past, number-row, number-own, get-counts_of}
 use Rattle.rds_names.specs.Conditions.{and_left, and_right, equal_of}
@@ -23,12 +23,12 @@ use Rattle.rds_delta.specs.declared.row.Row.TheVariants as rows
 use Rattle.rds_delta.specs.Claims.{claims, life_claim, number_claim, IsCertificate}
 use Rattle.rds_delta.specs.Grouped.{rows_of_claims, grouped_onto}
 use Rattle.rds_delta.proofs.Grouping.{rows_of_claims-append, certificate_is, grouped_certificate}
-use Rattle.rds_delta.specs.Rest.{rows_after, is_flat}
+use Rattle.rds_delta.specs.Rest.{claims_after, is_flat}
 use Rattle.rds_delta.specs.CounterRows.{number_rows, counter_rows, IsNumberAbove, AreAbove}
 use Rattle.rds_delta.specs.Claimed.{IsClaimed, IsUnclaimed}
 
 -- the claims of numbers are the count rows
-number_grouped : (peer : Place → ℕ) (q : Place) (n : ℕ) (es : List (Place × Above)) → rows_of_claims (each (number_claim peer) (above q n ++ es)) ≡ number_rows q n (peer q) ++ rows_of_claims (each (number_claim peer) es)
+number_grouped : (peer : Place → ℕ) (q : Place) (n : ℕ) (es : List (Place × Above)) → rows_of_claims (each (number_claim peer) (entry_above q n ++ es)) ≡ number_rows q n (peer q) ++ rows_of_claims (each (number_claim peer) es)
 number_grouped peer q zero es = refl
 number_grouped peer q (suc n) es =
     let e : n + 1 ≡ suc n = omega arith in
@@ -39,7 +39,7 @@ counts_grouped peer [] = refl
 counts_grouped peer (r ∷ rs) =
     let p = place r.key r.replica P in
     let n = place r.key r.replica N in
-    number_grouped peer p r.p (above n r.n ++ components rs)
+    number_grouped peer p r.p (entry_above n r.n ++ components rs)
     ∙ ap (λ l. number_rows p r.p (peer p) ++ l) (number_grouped peer n r.n (components rs) ∙ ap (λ l. number_rows n r.n (peer n) ++ l) (counts_grouped peer rs))
 
 flat_number : (q : Place) (n peer : ℕ) (rs : List Row) → is_flat rs ≡ true → is_flat (number_rows q n peer ++ rs) ≡ true
@@ -55,7 +55,7 @@ keep_all [] = refl
 keep_all (x ∷ xs) = ap (λ l. x ∷ l) (keep_all xs)
 
 -- a certificate is the rows of the dots, then those of the numbers
-pub certificate_rows : (b : Ranks) (v : StateValue) (rs : List CountRow) → AreCountRows rs → v.counts ≡ counts_of rs → rows_of_claims (claims b v) ≡ rows_after b.rank v.lives None (counter_rows b.number rs)
+pub certificate_rows : (b : Ranks) (v : StateValue) (rs : List CountRow) → AreCountRows rs → v.counts ≡ counts_of rs → rows_of_claims (claims b v) ≡ claims_after b.rank v.lives None (counter_rows b.number rs)
 certificate_rows b v rs are is =
     rows_of_claims-append (each (life_claim b.rank) (map.entries v.lives)) (each (number_claim b.number) (map.entries v.counts)) []
     ∙ ap (λ es. grouped_onto (each (life_claim b.rank) (map.entries v.lives)) (rows_of_claims (each (number_claim b.number) es))) (ap map.entries is ∙ entries-counts_of rs are.rise)
@@ -141,7 +141,7 @@ flat_claims : (peer : Place → ℕ) (es : List (Place × Above)) → is_flat (r
 flat_claims peer [] = refl
 flat_claims peer (e ∷ es) = refl
 
-claims_rows : (b : Ranks) (v : StateValue) → rows_of_claims (claims b v) ≡ rows_after b.rank v.lives None (rows_of_claims (each (number_claim b.number) (map.entries v.counts)))
+claims_rows : (b : Ranks) (v : StateValue) → rows_of_claims (claims b v) ≡ claims_after b.rank v.lives None (rows_of_claims (each (number_claim b.number) (map.entries v.counts)))
 claims_rows b v =
     rows_of_claims-append (each (life_claim b.rank) (map.entries v.lives)) (each (number_claim b.number) (map.entries v.counts)) []
     ∙ ap (λ es. grouped_onto (each (life_claim b.rank) es) (rows_of_claims (each (number_claim b.number) (map.entries v.counts)))) (sym (keep_all (map.entries v.lives)))
@@ -150,5 +150,5 @@ pub whole_no : (b : Ranks) (v : StateValue) (rows : List Row) → IsUnclaimed b.
 whole_no b v rows un h = un.fails h.0.lives (rows_of_claims (each (number_claim b.number) (map.entries v.counts))) (flat_claims b.number (map.entries v.counts)) (certificate_is b v rows h.1 ∙ claims_rows b v)
 
 -- the dots' rows and the numbers' are a certificate
-pub whole_certificate : (b : Ranks) (v : StateValue) (rs : List CountRow) → AreCountRows rs → v.counts ≡ counts_of rs → (dots : List Row) → ((more : List Row) → is_flat more ≡ true → dots ++ more ≡ rows_after b.rank v.lives None more) → IsCertificate b v (dots ++ counter_rows b.number rs)
+pub whole_certificate : (b : Ranks) (v : StateValue) (rs : List CountRow) → AreCountRows rs → v.counts ≡ counts_of rs → (dots : List Row) → ((more : List Row) → is_flat more ≡ true → dots ++ more ≡ claims_after b.rank v.lives None more) → IsCertificate b v (dots ++ counter_rows b.number rs)
 whole_certificate b v rs are is dots told = subst (IsCertificate b v) (certificate_rows b v rs are is ∙ sym (told (counter_rows b.number rs) (flat_counts b.number rs))) (grouped_certificate b v)

@@ -8,7 +8,7 @@ use Rattle.rds_delta.specs.Ranks.{life_rank}
 use Rattle.rds_delta.specs.declared.row.Row.{Row}
 use Rattle.rds_delta.specs.declared.step.DotRow.{DotRow}
 use Rattle.rds_delta.specs.declared.step.DotRow.TheVariants as dots
-use Rattle.rds_delta.specs.Rest.{rows_after, is_flat}
+use Rattle.rds_delta.specs.Rest.{claims_after, is_flat}
 
 abbrev pub row_above : DotRow → Bool
 row_above (dots.Live d p) = p == 0
@@ -24,13 +24,13 @@ IsAboveAt peer v d = is_some (map.get v d) ≡ true → peer d < life_rank (map.
 -- the rows up to here are those of the dots up to the given one, which are above
 pub record IsClaimedTo (peer : Dot → ℕ) (v : Lived) (rows : List Row) (after : Option Dot) (rest : List Row) : Type 0 where
   pub above : (d : Dot) → comes_after after d ≡ false → IsAboveAt peer v d
-  pub left : (more : List Row) → is_flat more ≡ true → (rows ≡ rows_after peer v None more) ↔ (rest ≡ rows_after peer v after more)
+  pub left : (more : List Row) → is_flat more ≡ true → (rows ≡ claims_after peer v None more) ↔ (rest ≡ claims_after peer v after more)
 
 -- all dots are above and claimed, and these rows are left
 pub record IsClaimed (peer : Dot → ℕ) (v : Lived) (rows rest : List Row) : Type 0 where
   pub above : (d : Dot) → IsAboveAt peer v d
-  pub left : (more : List Row) → is_flat more ≡ true → (rows ≡ rows_after peer v None more) ↔ (rest ≡ more)
+  pub left : (more : List Row) → is_flat more ≡ true → (rows ≡ claims_after peer v None more) ↔ (rest ≡ more)
 
 -- a dot isn't above, or the rows don't begin as they must
 pub record IsUnclaimed (peer : Dot → ℕ) (v : Lived) (rows : List Row) : Type 0 where
-  pub fails : ((d : Dot) → IsAboveAt peer v d) → (more : List Row) → is_flat more ≡ true → rows ≡ rows_after peer v None more → ⊥
+  pub fails : ((d : Dot) → IsAboveAt peer v d) → (more : List Row) → is_flat more ≡ true → rows ≡ claims_after peer v None more → ⊥

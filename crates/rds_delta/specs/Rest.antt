@@ -16,8 +16,8 @@ abbrev pub after_of : Option Dot → Lived → List (Dot × Life)
 after_of after v = filter (λ e. comes_after after e.0) (map.entries v)
 
 -- the rows of the dots after the given one, and then the given rows
-abbrev pub rows_after : (Dot → ℕ) → Lived → Option Dot → List Row → List Row
-rows_after peer v after more = grouped_onto (each (life_claim peer) (after_of after v)) more
+abbrev pub claims_after : (Dot → ℕ) → Lived → Option Dot → List Row → List Row
+claims_after peer v after more = grouped_onto (each (life_claim peer) (after_of after v)) more
 
 -- rows that no run of dead dots goes on into
 abbrev pub is_flat : List Row → Bool
@@ -26,6 +26,6 @@ is_flat (rows.Live d ∷ rs) = true
 is_flat (rows.Dead r p ∷ rs) = false
 is_flat (rows.Count key replica which sent peer ∷ rs) = true
 
-abbrev pub row_of : DotRow → Row
-row_of (dots.Live d p) = rows.Live d
-row_of (dots.Dead r p) = rows.Dead r p
+abbrev pub certified_row : DotRow → Row
+certified_row (dots.Live d p) = rows.Live d
+certified_row (dots.Dead r p) = rows.Dead r p

@@ -13,7 +13,7 @@ ghost use Rattle.rds_delta.specs.CounterRows.{counter_rows, number_rows};
 ghost use Rattle.rds_delta.specs.Digested.{rank_in, ranks_in};
 ghost use Rattle.rds_delta.specs.Least.{IsAbove};
 ghost use Rattle.rds_delta.specs.Ranges.{AreRowsWithin};
-ghost use Rattle.rds_delta.specs.Rest.{is_flat, row_of, rows_after};
+ghost use Rattle.rds_delta.specs.Rest.{is_flat, certified_row, claims_after};
 
 use crate::digest::Digest;
 use crate::row::{Certificate, Row};
@@ -54,7 +54,7 @@ fn dot_rows<S: DotSet>(
 ) -> Result<Vec<Row>, Fault>
     ensures ok { IfOk result
         (λ rows. (more : List Row) → is_flat more ≡ true
-        → rows.items ++ more ≡ rows_after (rank_in digest.now) lives.now None more) }
+        → rows.items ++ more ≡ claims_after (rank_in digest.now) lives.now None more) }
     ensures dots { IsOk result → (d : Dot) → is_some (map.get lives.now d) ≡ true → is_dot d ≡ true }
     ensures memory { IfErr result (λ fault. fault ≡ Memory) }
     ensures nothing { map.len lives.now ≡ 0 → IsOk result }
@@ -74,7 +74,7 @@ fn dot_rows<S: DotSet>(
 
 /// The row of a live dot, or of dead ones.
 fn row(next: DotRow) -> Row
-    ensures { result ≡ row_of next }
+    ensures { result ≡ certified_row next }
 {
     match next {
         DotRow::Live(dot, _) => Row::Live(dot),

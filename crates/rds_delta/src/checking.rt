@@ -9,7 +9,7 @@ ghost use Rattle.rds_delta.specs.Claims.{IsCertificate};
 ghost use Rattle.rds_delta.specs.CounterRows.{AreAbove, IsNumberAbove, counter_rows, number_rows};
 ghost use Rattle.rds_delta.specs.Digested.{rank_in, ranks_in};
 ghost use Rattle.rds_delta.specs.Least.{IsAbove};
-ghost use Rattle.rds_delta.specs.Rest.{row_of};
+ghost use Rattle.rds_delta.specs.Rest.{certified_row};
 
 use crate::digest::Digest;
 use crate::row::{Certificate, Row};
@@ -74,7 +74,7 @@ fn is_above(next: DotRow) -> bool
 
 /// Whether the row is that of the dots.
 fn is_row(row: &Row, next: DotRow) -> bool
-    ensures { IsTrue result ↔ (row.now ≡ row_of next) }
+    ensures { IsTrue result ↔ (row.now ≡ certified_row next) }
 {
     match next {
         DotRow::Live(dot, _) => match row {

@@ -11,8 +11,8 @@ use Rattle.rds_dots.specs.declared.dot.TheConstants.{MAX_SEQ}
 use Rattle.rds_dots.specs.Dots.{Dots, is_dot, in_run, last_of, comes_after}
 use Rattle.rds_dots.specs.Lacking.{dot_of, IsNextRun}
 use Rattle.rds_names.specs.Conditions.{and_right}
-use Rattle.rds_dots.specs.Runs.{covers, place, start, stop, are_maximal, first_after, runs_of, AreRuns}
-use Rattle.rds_dots.specs.RunFacts.{Bounds, parts_of, has, has_past, has_none, start_stop, spans, covers_is}
+use Rattle.rds_dots.specs.Runs.{runs_cover, dot_place, start, stop, are_maximal, first_after, runs_of, AreRuns}
+use Rattle.rds_dots.specs.RunFacts.{Bounds, run_parts, has, has_past, has_none, start_stop, spans, covers_is}
 use Rattle.rds_dots.specs.RunsOf.{are_runs}
 use Rattle.rds_dots.specs.Sets.{dot_limits}
 
@@ -20,8 +20,8 @@ use Rattle.rds_dots.specs.Sets.{dot_limits}
 pub record IsFirst (rs : List Run) (after : Option Dot) (f : Run) : Type 0 where
   pub bounds : Bounds f
   pub ends : comes_after after (last_of f) ≡ true
-  pub inside : (d : Dot) → in_run f d ≡ true → covers rs d ≡ true
-  pub first : (d : Dot) → covers rs d ≡ true → comes_after after d ≡ true → start f ≤ place d.replica d.seq
+  pub inside : (d : Dot) → in_run f d ≡ true → runs_cover rs d ≡ true
+  pub first : (d : Dot) → runs_cover rs d ≡ true → comes_after after d ≡ true → start f ≤ dot_place d.replica d.seq
   pub stops : has rs (stop f) ≡ true
   pub gap : has rs (stop f + 1) ≡ false
 
@@ -41,14 +41,14 @@ or_later false b h = h
 or_false : (a b : Bool) → a ≡ false → b ≡ false → (a || b) ≡ false
 or_false a b p q = rw p q
 
-from_start : (r : Run) (rs : List Run) → are_maximal (r ∷ rs) ≡ true → (d : Dot) → covers (r ∷ rs) d ≡ true → start r ≤ place d.replica d.seq
+from_start : (r : Run) (rs : List Run) → are_maximal (r ∷ rs) ≡ true → (d : Dot) → runs_cover (r ∷ rs) d ≡ true → start r ≤ dot_place d.replica d.seq
 from_start r rs max d h =
-    let p = parts_of r rs max in
-    let lies : has (r ∷ rs) (place d.replica d.seq) ≡ true = and_right (is_dot d) _ (sym (covers_is (r ∷ rs) max d) ∙ h) in
+    let p = run_parts r rs max in
+    let lies : has (r ∷ rs) (dot_place d.replica d.seq) ≡ true = and_right (is_dot d) _ (sym (covers_is (r ∷ rs) max d) ∙ h) in
     let le = start_stop r p.bounds in
-    elim (spans r (place d.replica d.seq)) as (λ b. spans r (place d.replica d.seq) ≡ b → (b || has rs (place d.replica d.seq)) ≡ true → start r ≤ place d.replica d.seq) [
-      | true ↦ λ is _. below (start r) (stop r) (place d.replica d.seq) is
-      | false ↦ λ _ later. let past = has_past rs p.rest (stop r + 1) (place d.replica d.seq) p.apart later in omega arith
+    elim (spans r (dot_place d.replica d.seq)) as (λ b. spans r (dot_place d.replica d.seq) ≡ b → (b || has rs (dot_place d.replica d.seq)) ≡ true → start r ≤ dot_place d.replica d.seq) [
+      | true ↦ λ is _. below (start r) (stop r) (dot_place d.replica d.seq) is
+      | false ↦ λ _ later. let past = has_past rs p.rest (stop r + 1) (dot_place d.replica d.seq) p.apart later in omega arith
     ] refl lies
   where
     below : (a b n : ℕ) → (leb a n && leb n b) ≡ true → a ≤ n
@@ -64,11 +64,11 @@ not_after (Some a) r d ends has comes = numbers a.replica a.seq r.replica r.lo r
 
 first_here : (r : Run) (rs : List Run) → are_maximal (r ∷ rs) ≡ true → (after : Option Dot) → comes_after after (last_of r) ≡ true → IsFirst (r ∷ rs) after r
 first_here r rs max after ends =
-    let p = parts_of r rs max in
+    let p = run_parts r rs max in
     record {
       bounds = p.bounds;
       ends = ends;
-      inside = λ d h. or_true (in_run r d) (covers rs d) h;
+      inside = λ d h. or_true (in_run r d) (runs_cover rs d) h;
       first = λ d h _. from_start r rs max d h;
       stops = or_true _ (has rs (stop r)) (spans_stop (start r) (stop r) (start_stop r p.bounds));
       gap = or_false _ _ (past_stop (start r) (stop r) (stop r + 1) (omega arith)) (has_none rs p.rest (stop r + 1) (stop r + 1) p.apart (omega arith));
@@ -76,13 +76,13 @@ first_here r rs max after ends =
 
 first_later : (r : Run) (rs : List Run) → are_maximal (r ∷ rs) ≡ true → (after : Option Dot) → comes_after after (last_of r) ≡ false → (f : Run) → IsFirst rs after f → IsFirst (r ∷ rs) after f
 first_later r rs max after ends f is =
-    let p = parts_of r rs max in
+    let p = run_parts r rs max in
     let past = has_past rs p.rest (stop r + 1) (stop f) p.apart is.stops in
     record {
       bounds = is.bounds;
       ends = is.ends;
-      inside = λ d h. or_later (in_run r d) (covers rs d) (is.inside d h);
-      first = λ d h comes. (elim (in_run r d) as (λ b. in_run r d ≡ b → (b || covers rs d) ≡ true → start f ≤ place d.replica d.seq) [
+      inside = λ d h. or_later (in_run r d) (runs_cover rs d) (is.inside d h);
+      first = λ d h comes. (elim (in_run r d) as (λ b. in_run r d ≡ b → (b || runs_cover rs d) ≡ true → start f ≤ dot_place d.replica d.seq) [
         | true ↦ λ has _. absurd (not_after after r d ends has comes)
         | false ↦ λ _ later. is.first d later comes
       ] refl h);
@@ -93,20 +93,20 @@ first_later r rs max after ends f is =
 pub is_first : (rs : List Run) → are_maximal rs ≡ true → (after : Option Dot) (f : Run) → first_after after rs ≡ Some f → IsFirst rs after f
 is_first [] max after f is = cc
 is_first (r ∷ rs) max after f is =
-    let again = is_first rs (parts_of r rs max).rest after f in
+    let again = is_first rs (run_parts r rs max).rest after f in
     elim (comes_after after (last_of r)) as (λ b. comes_after after (last_of r) ≡ b → cond b (Some r) (first_after after rs) ≡ Some f → IsFirst (r ∷ rs) after f) [
       | true ↦ λ ends e. (let same : r ≡ f = cc in subst (IsFirst (r ∷ rs) after) same (first_here r rs max after ends))
       | false ↦ λ ends e. first_later r rs max after ends f (again e)
     ] refl is
 
 -- where no run ends after a dot, no dot comes after it
-pub none_after : (rs : List Run) (after : Option Dot) → first_after after rs ≡ None → (d : Dot) → covers rs d ≡ true → comes_after after d ≡ true → ⊥
+pub none_after : (rs : List Run) (after : Option Dot) → first_after after rs ≡ None → (d : Dot) → runs_cover rs d ≡ true → comes_after after d ≡ true → ⊥
 none_after [] after none d h comes = false≢true h
 none_after (r ∷ rs) after none d h comes =
     let again = none_after rs after in
     elim (comes_after after (last_of r)) as (λ b. comes_after after (last_of r) ≡ b → cond b (Some r) (first_after after rs) ≡ None → ⊥) [
       | true ↦ λ ends e. cc
-      | false ↦ λ ends e. (elim (in_run r d) as (λ b. in_run r d ≡ b → (b || covers rs d) ≡ true → ⊥) [
+      | false ↦ λ ends e. (elim (in_run r d) as (λ b. in_run r d ≡ b → (b || runs_cover rs d) ≡ true → ⊥) [
         | true ↦ λ has _. not_after after r d ends has comes
         | false ↦ λ _ later. again e d later comes
       ] refl h)
@@ -142,7 +142,7 @@ module _ (s : Dots) (dots : (d : Dot) → set.contains s d ≡ true → is_dot d
   runs : AreRuns s (runs_of s)
   runs = are_runs s dots
 
-  covered : (d : Dot) → set.contains s d ≡ true → covers (runs_of s) d ≡ true
+  covered : (d : Dot) → set.contains s d ≡ true → runs_cover (runs_of s) d ≡ true
   covered d h = runs.same d ∙ h
 
   -- no run, no dot
@@ -174,7 +174,7 @@ module _ (s : Dots) (dots : (d : Dot) → set.contains s d ≡ true → is_dot d
           next = sym (runs.same (dot_of replica (r.hi + 1))) ∙ covers_is (runs_of s) runs.maximal (dot_of replica (r.hi + 1)) ∙ and_false (is_dot (dot_of replica (r.hi + 1))) _ (ap (has (runs_of s)) (place_is r.replica replica r.hi same) ∙ one.gap);
         }
       where
-        place_is : (ρ a hi : ℕ) → ρ ≡ a → place a (hi + 1) ≡ place ρ hi + 1
+        place_is : (ρ a hi : ℕ) → ρ ≡ a → dot_place a (hi + 1) ≡ dot_place ρ hi + 1
         place_is ρ a hi e = omega arith
 
 module _ (s : Dots) (dots : (d : Dot) → set.contains s d ≡ true → is_dot d ≡ true) (last : ℕ) where

@@ -12,7 +12,7 @@ use Rattle.rds_dots.specs.Dots.{dot_cmp, last_of, comes_after}
 use Rattle.rds_dots.specs.Order.{dots_total}
 use Rattle.rds_names.specs.Conditions.{less_of}
 use Rattle.rds_dots.specs.Runs.{start, stop, begins_past, are_maximal, first_after}
-use Rattle.rds_dots.specs.RunFacts.{Bounds, parts_of, start_stop, lt_of, begins_later}
+use Rattle.rds_dots.specs.RunFacts.{Bounds, run_parts, start_stop, lt_of, begins_later}
 use Rattle.rds_dots.specs.RunsAfter.{runs_left}
 
 pub all_left : (rs : List Run) → runs_left None rs ≡ rs
@@ -37,7 +37,7 @@ below_of a s b t p q h = grind (arith, nat_tests)
 later_left : (after : Option Dot) (r : Run) → Bounds r → comes_after after (last_of r) ≡ true → (rs : List Run) → begins_past (stop r) rs ≡ true → are_maximal rs ≡ true → runs_left after rs ≡ rs
 later_left after r b h [] begins max = refl
 later_left after r b h (s ∷ rs) begins max =
-    let p = parts_of s rs max in
+    let p = run_parts s rs max in
     let lt = lt_of (stop r) (start s) begins in
     let le = start_stop s p.bounds in
     let less : dot_cmp (last_of r) (last_of s) ≡ Less = less_of _ (below_of r.replica r.hi s.replica s.hi b.most p.bounds.most (omega arith)) in
@@ -68,7 +68,7 @@ not_before after d e out in_ =
 all_past : (r : Run) → Bounds r → (rs : List Run) → begins_past (stop r) rs ≡ true → are_maximal rs ≡ true → runs_left (Some (last_of r)) rs ≡ rs
 all_past r b [] begins max = refl
 all_past r b (s ∷ rs) begins max =
-    let p = parts_of s rs max in
+    let p = run_parts s rs max in
     let lt = lt_of (stop r) (start s) begins in
     let le = start_stop s p.bounds in
     let is : comes_after (Some (last_of r)) (last_of s) ≡ true = below_of r.replica r.hi s.replica s.hi b.most p.bounds.most (omega arith) in
@@ -79,7 +79,7 @@ all_past r b (s ∷ rs) begins max =
 pub one_left : (after : Option Dot) (rs : List Run) → are_maximal rs ≡ true → (r : Run) → first_after after rs ≡ Some r → runs_left after rs ≡ r ∷ runs_left (Some (last_of r)) rs
 one_left after [] max r is = (let none : ⊥ = cc in absurd none)
 one_left after (s ∷ rs) max r is =
-    let p = parts_of s rs max in
+    let p = run_parts s rs max in
     let begins = begins_later rs (stop s) (stop s + 1) (omega arith) p.apart in
     let again = one_left after rs p.rest r in
     let passes = found_passes after rs r in

@@ -6,14 +6,14 @@ use Rattle.rds_dots.specs.declared.dot.Dot.{Dot}
 use Rattle.rds_dots.specs.declared.dot.Run.{Run}
 use Rattle.rds_dots.specs.Dots.{Dots, is_dot, last_of}
 use Rattle.rds_dots.specs.Order.{dots_total, dots_exact}
-use Rattle.rds_dots.specs.Runs.{covers, are_maximal, first_after, runs_of}
+use Rattle.rds_dots.specs.Runs.{runs_cover, are_maximal, first_after, runs_of}
 use Rattle.rds_dots.specs.RunsAfter.{runs_left}
 use Rattle.rds_dots.specs.RunsOf.{are_runs}
 use Rattle.rds_dots.proofs.RunWalks.{one_left}
 
 -- sets with the same runs are the same
 pub same_runs : (s t : Dots) → ((d : Dot) → set.contains s d ≡ true → is_dot d ≡ true) → ((d : Dot) → set.contains t d ≡ true → is_dot d ≡ true) → runs_of s ≡ runs_of t → s ≡ t
-same_runs s t p q e = set.same_set dots_total dots_exact s t (λ d. sym ((are_runs s p).same d) ∙ ap (λ rs. covers rs d) e ∙ (are_runs t q).same d)
+same_runs s t p q e = set.same_set dots_total dots_exact s t (λ d. sym ((are_runs s p).same d) ∙ ap (λ rs. runs_cover rs d) e ∙ (are_runs t q).same d)
 
 -- where the first run that is left is the same, so are all that are left, if those after it are
 pub same_left : (after : Option Dot) (rs ts : List Run) → are_maximal rs ≡ true → are_maximal ts ≡ true → (r : Run) → first_after after rs ≡ Some r → first_after after ts ≡ Some r → runs_left (Some (last_of r)) rs ≡ runs_left (Some (last_of r)) ts → runs_left after rs ≡ runs_left after ts

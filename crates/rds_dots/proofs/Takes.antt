@@ -8,7 +8,7 @@ use Rattle.rds_dots.specs.Dots.{dot_cmp}
 use Rattle.rds_dots.specs.Ascending.{is_above, ascends}
 use Rattle.rds_dots.specs.Listed.{lists, without}
 use Rattle.rds_dots.specs.Order.{dots_exact, before_after, after_before}
-use Rattle.rds_dots.specs.Merges.{above, above_trans}
+use Rattle.rds_dots.specs.Merges.{less_is_above, above_trans}
 use Rattle.rds_names.specs.Conditions.{and_true, and_left, and_right, less_of}
 use Rattle.rds_dots.specs.Sets.{not_above}
 
@@ -38,7 +38,7 @@ module _ (ls rs : List Dot) (x : Dot) (xs : List Dot) (y : Dot) (ys : List Dot) 
 
   pub take_less : dot_cmp x y ≡ Less → without ls rs ≡ x ∷ without xs rs
   take_less less =
-      let apart = not_above x (y ∷ ys) (and_true (is_above x y) _ (above x y less) (above_trans x y less ys (and_left _ (ascends ys) right_rises))) in
+      let apart = not_above x (y ∷ ys) (and_true (is_above x y) _ (less_is_above x y less) (above_trans x y less ys (and_left _ (ascends ys) right_rises))) in
       ap (λ l. without l rs) left ∙ without_head x xs rs (ap (λ r. lists r x) right ∙ apart)
 
   pub take_equal : dot_cmp x y ≡ Equal → without ls rs ≡ without xs ys
@@ -51,7 +51,7 @@ module _ (ls rs : List Dot) (x : Dot) (xs : List Dot) (y : Dot) (ys : List Dot) 
   pub take_greater : dot_cmp x y ≡ Greater → without ls rs ≡ without ls ys
   take_greater greater =
       let less = after_before x y greater in
-      let all = and_true (is_above y x) _ (above y x less) (above_trans y x less xs (and_left _ (ascends xs) left_rises)) in
+      let all = and_true (is_above y x) _ (less_is_above y x less) (above_trans y x less xs (and_left _ (ascends xs) left_rises)) in
       ap (without ls) right ∙ without_below y ls ys (ap (list_all (is_above y)) left ∙ all)
 
 pub rest_rises : (ls : List Dot) (x : Dot) (xs : List Dot) → ls ≡ x ∷ xs → ascends ls ≡ true → ascends xs ≡ true

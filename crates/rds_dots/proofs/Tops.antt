@@ -18,7 +18,7 @@ use Rattle.rds_dots.specs.Listed.{lists}
 use Rattle.rds_dots.specs.Order.{dots_total}
 use Rattle.rds_names.specs.Conditions.{and_left, and_right, and_true}
 use Rattle.rds_dots.proofs.Parts.{all_back}
-use Rattle.rds_dots.specs.Sets.{all_listed, contains_list, dot_limits, same_dot}
+use Rattle.rds_dots.specs.Sets.{all_listed, contains_list, dot_limits, tied_dots_are_one}
 
 abbrev dot : ℕ → ℕ → Dot
 dot replica seq = record { replica = replica; seq = seq }
@@ -66,7 +66,7 @@ module _ (ds front back : List Dot) (replica : ℕ) (is : front ++ back ≡ ds) 
     before_last d there =
         or_cases (lists earlier d) (eq_by_cmp dot_cmp d last || false)
         (λ h. inl (all_listed (λ e. is_above e last) earlier (below_last earlier last (ap ascends (sym ends) ∙ rise)) d h))
-        (λ h. inr (same_dot d last (or_true _ false h (λ f. false≢true f))))
+        (λ h. inr (tied_dots_are_one d last (or_true _ false h (λ f. false≢true f))))
         (sym (list_any-append (eq_by_cmp dot_cmp d) earlier (last ∷ [])) ∙ ap (λ es. lists es d) (sym ends) ∙ there)
       where
         or_cases : (a b : Bool) → {P : Type 0} → (a ≡ true → P) → (b ≡ true → P) → (a || b) ≡ true → P

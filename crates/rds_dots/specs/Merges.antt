@@ -72,13 +72,13 @@ module _ (p : Dot → Bool) where
   all-merge_of [] ys = refl
   all-merge_of (x ∷ xs) ys = all-merge_onto x xs (merge_of xs) (all-merge_of xs) ys
 
-pub above : (x y : Dot) → dot_cmp x y ≡ Less → is_above x y ≡ true
-above x y is = ap is_lt is
+pub less_is_above : (x y : Dot) → dot_cmp x y ≡ Less → is_above x y ≡ true
+less_is_above x y is = ap is_lt is
 
 -- what is above y is above all that y is above
 pub above_trans : (x y : Dot) → dot_cmp x y ≡ Less → (zs : List Dot) → list_all (is_above y) zs ≡ true → list_all (is_above x) zs ≡ true
 above_trans x y is [] h = refl
-above_trans x y is (z ∷ zs) h = and_true (is_above x z) _ (above x z (dots_total.trans x y z is (less_of (dot_cmp y z) (and_left (is_above y z) _ h)))) (above_trans x y is zs (and_right (is_above y z) _ h))
+above_trans x y is (z ∷ zs) h = and_true (is_above x z) _ (less_is_above x z (dots_total.trans x y z is (less_of (dot_cmp y z) (and_left (is_above y z) _ h)))) (above_trans x y is zs (and_right (is_above y z) _ h))
 
 ascends-merge_onto : (x : Dot) (xs : List Dot) (rest : List Dot → List Dot) → ((p : Dot → Bool) (ys : List Dot) → list_all p (rest ys) ≡ (list_all p xs && list_all p ys)) → ((ys : List Dot) → ascends ys ≡ true → ascends (rest ys) ≡ true) → list_all (is_above x) xs ≡ true → (ys : List Dot) → ascends ys ≡ true → ascends (merge_onto x rest ys) ≡ true
 ascends-merge_onto x xs rest all asc front [] rise = and_true _ _ (all (is_above x) [] ∙ and_true _ _ front refl) (asc [] refl)
@@ -87,9 +87,9 @@ ascends-merge_onto x xs rest all asc front (y ∷ ys) rise =
     let later = and_right (list_all (is_above y) ys) _ rise in
     let again = ascends-merge_onto x xs rest all asc front ys later in
     elim (dot_cmp x y) as (λ o. dot_cmp x y ≡ o → ascends (by_order o (x ∷ rest (y ∷ ys)) (x ∷ rest ys) (y ∷ merge_onto x rest ys)) ≡ true) [
-      | Less ↦ λ is. and_true _ _ (all (is_above x) (y ∷ ys) ∙ and_true _ _ front (and_true (is_above x y) _ (above x y is) (above_trans x y is ys first))) (asc (y ∷ ys) rise)
+      | Less ↦ λ is. and_true _ _ (all (is_above x) (y ∷ ys) ∙ and_true _ _ front (and_true (is_above x y) _ (less_is_above x y is) (above_trans x y is ys first))) (asc (y ∷ ys) rise)
       | Equal ↦ λ is. and_true _ _ (all (is_above x) ys ∙ and_true _ _ front (ap (λ d. list_all (is_above d) ys) (dots_exact x y is) ∙ first)) (asc ys later)
-      | Greater ↦ λ is. and_true _ _ (all-merge_onto (is_above y) x xs rest (all (is_above y)) ys ∙ and_true _ _ (and_true (is_above y x) _ (above y x (after_before x y is)) (above_trans y x (after_before x y is) xs front)) first) again
+      | Greater ↦ λ is. and_true _ _ (all-merge_onto (is_above y) x xs rest (all (is_above y)) ys ∙ and_true _ _ (and_true (is_above y x) _ (less_is_above y x (after_before x y is)) (above_trans y x (after_before x y is) xs front)) first) again
     ] refl
 
 -- a merge of two lists that rise rises

@@ -9,7 +9,7 @@ use Rattle.rds_dots.specs.declared.dot.Dot.{Dot}
 use Rattle.rds_dots.specs.declared.dot.Run.{Run}
 use Rattle.rds_dots.specs.Dots.{is_dot}
 use Rattle.rds_names.specs.Conditions.{and_left, and_right, and_true}
-use Rattle.rds_dots.specs.Runs.{covers, place, start, stop, is_run, begins_past, are_maximal}
+use Rattle.rds_dots.specs.Runs.{runs_cover, dot_place, start, stop, is_run, begins_past, are_maximal}
 
 -- the limits of a run
 pub record Bounds (r : Run) : Type 0 where
@@ -40,13 +40,13 @@ pub is_run_by : (r : Run) → Bounds r → is_run r ≡ true
 is_run_by r b = is_run_of r.replica r.lo r.hi b.small b.one b.rises b.most
 
 -- the parts of a list of maximal runs
-pub record Parts (r : Run) (rs : List Run) : Type 0 where
+pub record RunParts (r : Run) (rs : List Run) : Type 0 where
   pub bounds : Bounds r
   pub apart : begins_past (stop r + 1) rs ≡ true
   pub rest : are_maximal rs ≡ true
 
-pub parts_of : (r : Run) (rs : List Run) → are_maximal (r ∷ rs) ≡ true → Parts r rs
-parts_of r rs h =
+pub run_parts : (r : Run) (rs : List Run) → are_maximal (r ∷ rs) ≡ true → RunParts r rs
+run_parts r rs h =
     let front = and_left (is_run r && begins_past (stop r + 1) rs) (are_maximal rs) h in
     record { bounds = bounds_of r (and_left (is_run r) _ front); apart = and_right (is_run r) _ front; rest = and_right (is_run r && begins_past (stop r + 1) rs) (are_maximal rs) h }
 
@@ -81,7 +81,7 @@ begins_later (r ∷ rs) m n le h = let lt = lt_of n (start r) h in lt_by m (star
 pub has_past : (rs : List Run) → are_maximal rs ≡ true → (m n : ℕ) → begins_past m rs ≡ true → has rs n ≡ true → m < n
 has_past [] max m n begins h = absurd (false≢true h)
 has_past (r ∷ rs) max m n begins h =
-    let p = parts_of r rs max in
+    let p = run_parts r rs max in
     let lt = lt_of m (start r) begins in
     let le = start_stop r p.bounds in
     elim (spans r n) as (λ b. spans r n ≡ b → (b || has rs n) ≡ true → m < n) [
@@ -100,11 +100,11 @@ and_false true = refl
 and_false false = refl
 
 -- runs have the dots whose places they go through
-pub covers_is : (rs : List Run) → are_maximal rs ≡ true → (d : Dot) → covers rs d ≡ (is_dot d && has rs (place d.replica d.seq))
+pub covers_is : (rs : List Run) → are_maximal rs ≡ true → (d : Dot) → runs_cover rs d ≡ (is_dot d && has rs (dot_place d.replica d.seq))
 covers_is [] max d = and_false (is_dot d)
 covers_is (r ∷ rs) max d =
-    let p = parts_of r rs max in
+    let p = run_parts r rs max in
     let b = p.bounds in
-    ap (λ x. x || covers rs d) (in_is d.replica d.seq r.replica r.lo r.hi b.small b.one b.most)
-    ∙ ap (λ x. (is_dot d && spans r (place d.replica d.seq)) || x) (covers_is rs p.rest d)
+    ap (λ x. x || runs_cover rs d) (in_is d.replica d.seq r.replica r.lo r.hi b.small b.one b.most)
+    ∙ ap (λ x. (is_dot d && spans r (dot_place d.replica d.seq)) || x) (covers_is rs p.rest d)
     ∙ sym (and-or_distrib_left (is_dot d) _ _)

@@ -10,18 +10,18 @@ use Rattle.rds_dots.specs.Dots.{Dots, in_run, first_of, last_of, leads_to, comes
 use Rattle.rds_dots.specs.Merged.{merge_of}
 
 -- whether one of the runs has the dot
-abbrev pub covers : List Run → Dot → Bool
-covers rs d = list_any (λ r. in_run r d) rs
+abbrev pub runs_cover : List Run → Dot → Bool
+runs_cover rs d = list_any (λ r. in_run r d) rs
 
 -- where a dot stands among all dots, replica after replica, with a gap between two replicas
-abbrev pub place : ℕ → ℕ → ℕ
-place replica seq = replica * (MAX_SEQ + 1) + seq
+abbrev pub dot_place : ℕ → ℕ → ℕ
+dot_place replica seq = replica * (MAX_SEQ + 1) + seq
 
 abbrev pub start : Run → ℕ
-start r = place r.replica r.lo
+start r = dot_place r.replica r.lo
 
 abbrev pub stop : Run → ℕ
-stop r = place r.replica r.hi
+stop r = dot_place r.replica r.hi
 
 -- whether the run has a dot, and dots alone
 abbrev pub is_run : Run → Bool
@@ -64,4 +64,4 @@ runs_of s = runs_of_dots (dots_in_order (set.items s))
 -- the maximal runs of a set rise with gaps between, and have its dots and no others
 pub record AreRuns (s : Dots) (rs : List Run) : Type 0 where
   pub maximal : are_maximal rs ≡ true
-  pub same : (d : Dot) → covers rs d ≡ set.contains s d
+  pub same : (d : Dot) → runs_cover rs d ≡ set.contains s d

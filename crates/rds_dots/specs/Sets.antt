@@ -28,8 +28,8 @@ list-merge_of ds es = set.same_set dots_total dots_exact _ _ (λ q.
     ∙ sym (set.contains-union dots_total (set.from_list ds) (set.from_list es) q ∙ ap (λ b. b || set.contains (set.from_list {R = dot_cmp} es) q) (contains_list ds q) ∙ ap (λ b. lists ds q || b) (contains_list es q)))
 
 -- dots that tie are one
-pub same_dot : (q d : Dot) → eq_by_cmp dot_cmp q d ≡ true → q ≡ d
-same_dot q d e = dots_exact q d (equal_of (dot_cmp q d) e)
+pub tied_dots_are_one : (q d : Dot) → eq_by_cmp dot_cmp q d ≡ true → q ≡ d
+tied_dots_are_one q d e = dots_exact q d (equal_of (dot_cmp q d) e)
 
 pick_true : (e l pq : Bool) → (e ≡ true → pq ≡ true) → (e || (l && pq)) ≡ ((e || l) && pq)
 pick_true true l pq h = sym (h refl)
@@ -46,8 +46,9 @@ any-filter p q [] = refl
 any-filter p q (d ∷ ds) =
     let again = any-filter p q ds in
     elim (p d) as (λ b. p d ≡ b → lists (cond b (d ∷ filter p ds) (filter p ds)) q ≡ ((eq_by_cmp dot_cmp q d || lists ds q) && p q)) [
-      | true ↦ λ is. ap (λ b. eq_by_cmp dot_cmp q d || b) again ∙ pick_true _ _ (p q) (λ e. ap p (same_dot q d e) ∙ is)
-      | false ↦ λ is. again ∙ pick_false (eq_by_cmp dot_cmp q d) _ (p q) (λ e. ap p (same_dot q d e) ∙ is)
+      | true ↦ λ is. ap (λ b. eq_by_cmp dot_cmp q d || b) again
+          ∙ pick_true _ _ (p q) (λ e. ap p (tied_dots_are_one q d e) ∙ is)
+      | false ↦ λ is. again ∙ pick_false (eq_by_cmp dot_cmp q d) _ (p q) (λ e. ap p (tied_dots_are_one q d e) ∙ is)
     ] refl
 
 pub list-without : (ds es : List Dot) → set.from_list {R = dot_cmp} (without ds es) ≡ set.difference (set.from_list ds) (set.from_list es)
@@ -61,7 +62,7 @@ all_listed p [] all q one = absurd (false≢true one)
 all_listed p (d ∷ ds) all q one =
     let again = all_listed p ds (and_right (p d) _ all) q in
     elim (eq_by_cmp dot_cmp q d) as (λ b. eq_by_cmp dot_cmp q d ≡ b → (b || lists ds q) ≡ true → p q ≡ true) [
-      | true ↦ λ e _. ap p (same_dot q d e) ∙ and_left (p d) _ all
+      | true ↦ λ e _. ap p (tied_dots_are_one q d e) ∙ and_left (p d) _ all
       | false ↦ λ _ o. again o
     ] refl one
 

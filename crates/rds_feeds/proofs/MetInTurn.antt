@@ -12,7 +12,7 @@ use Rattle.rds_names.specs.Roster.{all_differ}
 use Rattle.rds_names.specs.declared.entry.Entry.{Entry}
 use Rattle.rds_dots.specs.declared.dot.Dot.{Dot}
 use Rattle.rds_bytes.specs.Reading.{Reader, made_at}
-use Rattle.rds_bytes.specs.Table.{has_key, AreIn, add_key, table_of, number_of, after_key, live_keys, is_tabled}
+use Rattle.rds_bytes.specs.Table.{has_key, AreIn, add_key, table_of, table_number, after_key, live_keys, is_tabled}
 use Rattle.rds_bytes.specs.TableValue.{TableValue, meeting}
 use Rattle.rds_bytes.proofs.MetKeys.{table_after}
 use Rattle.rds_bytes.proofs.TableLaws.{has_at, head_has, key_at_number, number_none, meets_all, table_differs, table_has}
@@ -26,10 +26,10 @@ no_some : {A B : Type 0} (x : A) → ◌≡◌ {A = Option A} None (Some x) → 
 no_some x h = absurd (let none : ⊥ = cc in none)
 
 -- a key whose number is below the length has its place there
-place_is : (table : List (List ℕ)) (k : List ℕ) → number_of table k < length table → slice_get table (number_of table k) ≡ Some k
+place_is : (table : List (List ℕ)) (k : List ℕ) → table_number table k < length table → slice_get table (table_number table k) ≡ Some k
 place_is table k less = by (has_key table k) refl
   where
-    by : (b : Bool) → has_key table k ≡ b → slice_get table (number_of table k) ≡ Some k
+    by : (b : Bool) → has_key table k ≡ b → slice_get table (table_number table k) ≡ Some k
     by true had = key_at_number table k had
     by false new = absurd (let past = number_none table k new in let none : ⊥ = omega arith in none)
 
@@ -39,16 +39,16 @@ has_taken (x ∷ xs) n zero k lt h = absurd (let none : ⊥ = omega arith in non
 has_taken (x ∷ xs) zero (suc u) k lt h = has_at (x ∷ take u xs) 0 k h
 has_taken (x ∷ xs) (suc n) (suc u) k lt h = ap (λ t. bytes_eq k x || t) (has_taken xs n u k (omega arith) h) ∙ or_true (bytes_eq k x)
 
-head_number : (b : Bool) (x : List ℕ) (xs : List (List ℕ)) (k : List ℕ) → bytes_eq k x ≡ b → number_of (x ∷ xs) k ≡ cond b 0 (1 + number_of xs k)
+head_number : (b : Bool) (x : List ℕ) (xs : List (List ℕ)) (k : List ℕ) → bytes_eq k x ≡ b → table_number (x ∷ xs) k ≡ cond b 0 (1 + table_number xs k)
 head_number true x xs k e = rw e refl
 head_number false x xs k e = rw e refl
 
-not_taken : (table : List (List ℕ)) (u : ℕ) (k : List ℕ) → u ≤ number_of table k → has_key (take u table) k ≡ false
+not_taken : (table : List (List ℕ)) (u : ℕ) (k : List ℕ) → u ≤ table_number table k → has_key (take u table) k ≡ false
 not_taken table zero k le = refl
 not_taken [] (suc u) k le = refl
 not_taken (x ∷ xs) (suc u) k le = by (bytes_eq k x) refl (λ later. not_taken xs u k later)
   where
-    by : (b : Bool) → bytes_eq k x ≡ b → (u ≤ number_of xs k → has_key (take u xs) k ≡ false) → has_key (x ∷ take u xs) k ≡ false
+    by : (b : Bool) → bytes_eq k x ≡ b → (u ≤ table_number xs k → has_key (take u xs) k ≡ false) → has_key (x ∷ take u xs) k ≡ false
     by true e more = absurd (let zero_is = head_number true x xs k e in let none : ⊥ = omega arith in none)
     by false e more = (let next = head_number false x xs k e in head_has false x (take u xs) k e ∙ more (omega arith))
 
@@ -69,7 +69,7 @@ module _ (table : List (List ℕ)) where
   IsMet keys None = Unit {0}
   IsMet keys (Some n) = n ≤ length table → keys ≡ take n table
 
-  met_one : (keys : List (List ℕ)) (u n : ℕ) (k : List ℕ) (less same : Bool) → ltb u n ≡ less → eqb n u ≡ same → number_of table k ≡ n → IsMet keys (Some u)
+  met_one : (keys : List (List ℕ)) (u n : ℕ) (k : List ℕ) (less same : Bool) → ltb u n ≡ less → eqb n u ≡ same → table_number table k ≡ n → IsMet keys (Some u)
       → IsMet (add_key keys k) (cond less None (cond same (Some (u + 1)) (Some u)))
   met_one keys u n k true same lt eq number is = tt
   met_one keys u n k false true lt eq number is = λ within. (
@@ -89,7 +89,7 @@ module _ (table : List (List ℕ)) where
 
   met_step : (keys : List (List ℕ)) (met : Option ℕ) (k : List ℕ) → IsMet keys met → IsMet (add_key keys k) (after_key table met k)
   met_step keys None k is = tt
-  met_step keys (Some u) k is = met_one keys u (number_of table k) k (ltb u (number_of table k)) (eqb (number_of table k) u) refl refl refl is
+  met_step keys (Some u) k is = met_one keys u (table_number table k) k (ltb u (table_number table k)) (eqb (table_number table k) u) refl refl refl is
 
   met_all : (more keys : List (List ℕ)) (met : Option ℕ) → IsMet keys met → IsMet (fold add_key keys more) (fold (after_key table) met more)
   met_all [] keys met is = is

@@ -5,7 +5,7 @@ use Rattle.rds_bytes.specs.Reading.{◌>>=◌, Reader}
 use Rattle.rds_feeds.specs.Chained.{chain}
 use Rattle.rds_names.specs.declared.fault.Fault.TheVariants.{Cut}
 use Rattle.rds_feeds.specs.declared.unfinished.Progress.TheVariants.{More, Whole}
-use Rattle.rds_feeds.specs.Pieces.{ReadsOn, Refuses}
+use Rattle.rds_feeds.specs.Pieces.{ReadsOn, RefusesAlready}
 use Rattle.rds_feeds.specs.Rows.{times}
 
 module _ {V : Type 0} (next : V → Reader V) where
@@ -34,7 +34,7 @@ module _ {U V : Type 0} (next : V → Reader V) (finish : U → Reader V) (total
   pub row_whole : (v : V) (after : List ℕ) → ReadsOn finish (λ more. finish u (rest ++ more)) (Whole v) after → (more : List ℕ) → total more ≡ times next (left - 1) v (after ++ more)
   row_whole v after r more = begun more ∙ ap (λ (y : Result (V × List ℕ) Fault). y >>= λ x. times next (left - 1) x.0 x.1) (r more)
 
-  pub row_refused : (e : Fault) → Refuses (λ more. finish u (rest ++ more)) e → Refuses total e
+  pub row_refused : (e : Fault) → RefusesAlready (λ more. finish u (rest ++ more)) e → RefusesAlready total e
   row_refused e r = elim r [
     | inl memory ↦ inl memory
     | inr ever ↦ inr (ever.0, λ more. begun more ∙ ap (λ (y : Result (V × List ℕ) Fault). y >>= λ x. times next (left - 1) x.0 x.1) (ever.1 more))

@@ -5,7 +5,7 @@ use Rattle.std.specs.Int.{w32, w64}
 use Rattle.std.proofs.lemmas.Bool.{lt-ltb}
 use Rattle.rds_names.specs.Conditions.{and_true, and_left, and_right}
 use Rattle.rds_counts.specs.declared.row.CountRow.{CountRow}
-use Rattle.rds_counts.specs.Counted.{is_row, before_next, rows_fit, AreCountRows}
+use Rattle.rds_counts.specs.Counted.{is_row, row_before_next, rows_fit, AreCountRows}
 use Rattle.rds_counts.specs.CountedLemmas.{fits_rows, rows_fit_of}
 use Rattle.rds_bytes.specs.Reading.{Reader, pair_at, when_at, key_at, byte_at, number_at, last, comes_after_row, is_next_place, keyed_place_at, is_count, is_second, counts_at, count_row_by, count_row_at, keyed_count_row_at}
 use Rattle.rds_bytes.specs.TableTexts.{numbered_at}
@@ -22,15 +22,15 @@ fit_push (r ∷ []) pre row fit is after =
     let had = and_left (is_row r) true (and_left (is_row r && true) true fit) in
     and_true _ _ (and_true _ _ had next) (and_true _ _ (and_true _ _ is refl) refl)
 fit_push (r ∷ (s ∷ rows)) pre row fit is after =
-    let front = and_left (is_row r && before_next r (s ∷ rows)) (rows_fit (s ∷ rows)) fit in
-    let later = and_right (is_row r && before_next r (s ∷ rows)) (rows_fit (s ∷ rows)) fit in
+    let front = and_left (is_row r && row_before_next r (s ∷ rows)) (rows_fit (s ∷ rows)) fit in
+    let later = and_right (is_row r && row_before_next r (s ∷ rows)) (rows_fit (s ∷ rows)) fit in
     let again : comes_after_row (last ((pre ++ r ∷ []) ++ (s ∷ rows))) row.key row.replica ≡ true =
     ap (λ (rs : List CountRow). comes_after_row (last rs) row.key row.replica) (append_assoc pre (r ∷ []) (s ∷ rows)) ∙ after in
     and_true _ _ front (fit_push (s ∷ rows) (pre ++ r ∷ []) row later is again)
 
 -- it comes next, and its numbers are within their limits
-abbrev IsNextRow : List CountRow → CountRow → Type 0
-IsNextRow before row = (comes_after_row (last before) row.key row.replica ≡ true) × (is_row row ≡ true)
+abbrev IsNextCountRow : List CountRow → CountRow → Type 0
+IsNextCountRow before row = (comes_after_row (last before) row.key row.replica ≡ true) × (is_row row ≡ true)
 
 abbrev second_at : ℕ → Reader ℕ
 second_at p = when_at (is_second p) (number_at w64)
@@ -45,7 +45,7 @@ are_numbers p n replica first second small =
 abbrev LeavesBytes : Reader (List ℕ) → Type 0
 LeavesBytes key = (bytes k rest : List ℕ) → IsBytes bytes → key bytes ≡ Ok (k, rest) → IsBytes rest
 
-next_read : (key : Reader (List ℕ)) → LeavesBytes key → (replicas : ℕ) (before : List CountRow) (row : CountRow) → WasRead (keyed_count_row_at key replicas before) row → IsNextRow before row
+next_read : (key : Reader (List ℕ)) → LeavesBytes key → (replicas : ℕ) (before : List CountRow) (row : CountRow) → WasRead (keyed_count_row_at key replicas before) row → IsNextCountRow before row
 unfolding keyed_count_row_at keyed_place_at counts_at
 next_read key leaves replicas before row read =
     let made = made_read count_row_by (pair_at (keyed_place_at key replicas before) counts_at) read.0 row read.1 read.2 in
@@ -59,7 +59,7 @@ next_read key leaves replicas before row read =
     let n = when_read (is_second numbers.first) (number_at w64) numbers.middle numbers.second read.1 numbers.second_is in
     let after = and_left (comes_after_row (last before) both.first.0 both.first.1) (ltb both.first.1 replicas) place.1 in
     let same : count_row_by (both.first, (numbers.first, numbers.second)) ≡ row = ap (λ (x : ℕ × ℕ). count_row_by (both.first, x)) numbers.are ∙ ap count_row_by both.are ∙ made.2 in
-    subst (IsNextRow before) same (after, are_numbers numbers.first numbers.second both.first.1 p.1 n.1 small)
+    subst (IsNextCountRow before) same (after, are_numbers numbers.first numbers.second both.first.1 p.1 n.1 small)
 
 pub no_count_rows : AreCountRows []
 no_count_rows = record { rise = refl; are = refl }

@@ -5,7 +5,7 @@ use Rattle.rds_names.specs.Conditions.{and_true, and_left, and_right}
 use Rattle.rds_names.specs.declared.entry.Entry.{Entry}
 use Rattle.rds_dots.specs.declared.dot.Dot.{Dot}
 use Rattle.rds_dots.specs.Dots.{Dots, comes_after}
-use Rattle.rds_life.specs.Fits.{fits, before_next}
+use Rattle.rds_life.specs.Fits.{fits, dot_before_next}
 use Rattle.rds_life.specs.Life.{Lived, AreRows, lives_of}
 use Rattle.rds_life.proofs.LivedLemmas.{fits_rows, rows_fit}
 use Rattle.rds_bytes.specs.Reading.{Reader, pair_at, made_at, byte_at, number_at, dot_by, dot_of_row, last, is_next_dot, key_at, dot_at, keyed_entry_at, live_row_at, keyed_live_row_at}
@@ -27,8 +27,8 @@ fits_push has (r ∷ []) pre row fit seen after =
     let had = and_left (has r.0) true (and_left (has r.0 && true) true fit) in
     and_true _ _ (and_true _ _ had next) (and_true _ _ (and_true _ _ seen refl) refl)
 fits_push has (r ∷ (s ∷ rows)) pre row fit seen after =
-    let front = and_left (has r.0 && before_next r.0 (s ∷ rows)) (fits has (s ∷ rows)) fit in
-    let later = and_right (has r.0 && before_next r.0 (s ∷ rows)) (fits has (s ∷ rows)) fit in
+    let front = and_left (has r.0 && dot_before_next r.0 (s ∷ rows)) (fits has (s ∷ rows)) fit in
+    let later = and_right (has r.0 && dot_before_next r.0 (s ∷ rows)) (fits has (s ∷ rows)) fit in
     let again : comes_after (dot_of_row (last ((pre ++ r ∷ []) ++ (s ∷ rows)))) row.0 ≡ true =
     ap (λ (rs : List (Dot × Entry)). comes_after (dot_of_row (last rs)) row.0) (append_assoc pre (r ∷ []) (s ∷ rows)) ∙ after in
     and_true _ _ front (fits_push has (s ∷ rows) (pre ++ r ∷ []) row later seen again)

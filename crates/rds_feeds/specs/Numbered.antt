@@ -31,11 +31,11 @@ keys_of p = used_keys (live_rows p.0) (count_rows p.1)
 abbrev pub has_own_table : TabledParts → Bool
 has_own_table p = is_tabled p.0 (keys_of p.1)
 
-abbrev coded_table : Coded (List (List ℕ))
-coded_table = coded_list (coded_list coded_ℕ)
+abbrev coded_keys : Coded (List (List ℕ))
+coded_keys = coded_list (coded_list coded_ℕ)
 
 abbrev pub coded_tabled_lives : Coded TabledLives
-coded_tabled_lives = coded× coded_table coded_lives
+coded_tabled_lives = coded× coded_keys coded_lives
 
 abbrev pub coded_tabled_parts : Coded TabledParts
-coded_tabled_parts = coded× coded_table (coded× coded_lives coded_counts)
+coded_tabled_parts = coded× coded_keys (coded× coded_lives coded_counts)

@@ -13,8 +13,8 @@ ReadsOn finish read (More u) rest = ((more : List ℕ) → read more ≡ finish 
 ReadsOn finish read (Whole v) rest = (more : List ℕ) → read more ≡ Ok (v, rest ++ more)
 
 -- memory ran out, or they are refused so whatever follows them
-abbrev pub Refuses : {V : Type 0} → Reader V → Fault → Type 0
-Refuses read e = (e ≡ Memory) ⊎ ((e ≡ Cut → ⊥) × ((more : List ℕ) → read more ≡ Err e))
+abbrev pub RefusesAlready : {V : Type 0} → Reader V → Fault → Type 0
+RefusesAlready read e = (e ≡ Memory) ⊎ ((e ≡ Cut → ⊥) × ((more : List ℕ) → read more ≡ Err e))
 
 -- pieces were read one after the other, each behind what was left of those before it
 abbrev pub ReadsPieces : {U V : Type 0} → (U → Reader V) → U → List ℕ → List (List ℕ) → Progress U V → List ℕ → Type 0

@@ -6,7 +6,7 @@ use Rattle.rds_names.specs.declared.fault.Fault.{Fault}
 use Rattle.rds_dots.specs.declared.dot.Run.{Run}
 use Rattle.rds_dots.specs.declared.dot.TheConstants.{MAX_SEQ}
 use Rattle.rds_dots.specs.Dots.{Dots}
-use Rattle.rds_life.specs.Code.{coded_dot}
+use Rattle.rds_life.specs.Code.{coded_dots}
 use Rattle.rds_bytes.specs.declared.dots.Gap.{Gap}
 use Rattle.rds_bytes.specs.declared.dots.DotRow.{DotRow}
 use Rattle.rds_bytes.specs.declared.dot_rows.RowHead.{RowHead}
@@ -29,9 +29,6 @@ pub record GapsValue : Type 0 where
   pub top : ℕ
   pub before : Option Gap
   pub seen : Dots
-
-abbrev pub coded_dots : Coded Dots
-coded_dots = set.code coded_dot
 
 abbrev pub coded_rows : Coded RowsValue
 coded_rows = code_by (ℕ × (ℕ × Dots)) (coded× coded_ℕ (coded× coded_ℕ coded_dots)) (λ r. (r.replicas, (r.least, r.seen)))

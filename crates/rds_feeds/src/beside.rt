@@ -2,7 +2,7 @@
 ghost use Rattle.std.specs.Prelude.{◌≡◌, ℕ, List, ◌++◌, Result, IfOk, IfErr};
 ghost use Rattle.rds_names.specs.declared.fault.Fault.{Fault};
 ghost use Rattle.rds_bytes.specs.Reading.{made_at, pair_at};
-ghost use Rattle.rds_feeds.specs.Pieces.{ReadsOn, Refuses};
+ghost use Rattle.rds_feeds.specs.Pieces.{ReadsOn, RefusesAlready};
 
 use crate::then::{Following, Then};
 use crate::unfinished::{Progress, Unfinished};

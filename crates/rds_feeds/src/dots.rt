@@ -39,7 +39,7 @@ pub struct SeenDots<S: DotSet> {
 
 impl<S: DotSet> Model for SeenDots<S> {
     ghost use Rattle.rds_dots.specs.Dots.{Dots};
-    ghost use Rattle.rds_feeds.specs.SeenDots.{coded_dots};
+    ghost use Rattle.rds_life.specs.Code.{coded_dots};
 
     ghost Value = { Dots };
 

@@ -1,7 +1,7 @@
 //! What is made of a value once it is whole.
 ghost use Rattle.std.specs.Prelude.{◌≡◌, ℕ, List, ◌++◌, Result, IfOk, IfErr};
 ghost use Rattle.rds_names.specs.declared.fault.Fault.{Fault};
-ghost use Rattle.rds_feeds.specs.Pieces.{ReadsOn, Refuses};
+ghost use Rattle.rds_feeds.specs.Pieces.{ReadsOn, RefusesAlready};
 ghost use Rattle.rds_feeds.specs.Parts.{makes, RefusesValue};
 
 use crate::unfinished::{Progress, Unfinished};

@@ -2,7 +2,7 @@
 ghost use Rattle.std.specs.Prelude.{◌≡◌, ℕ, List, ◌++◌, Result, Ok, MatchOption, IfOk, IfErr};
 ghost use Rattle.rds_names.specs.declared.fault.Fault.{Fault};
 ghost use Rattle.rds_bytes.specs.Reading.{ReadsExactly, number_at};
-ghost use Rattle.rds_feeds.specs.Pieces.{ReadsOn, Refuses};
+ghost use Rattle.rds_feeds.specs.Pieces.{ReadsOn, RefusesAlready};
 ghost use Rattle.rds_feeds.specs.Rows.{times, many_finish, width_of};
 
 use crate::unfinished::{Progress, Unfinished};
@@ -36,7 +36,7 @@ pub trait Repeating: Unfinished {
     ) -> Result<Option<&'a [u8]>, Fault>
         ensures ok { IfOk result (λ after. MatchOption after (rows.new ≡ rows.old)
             (λ rest. (more : List ℕ) → next rows.old (bytes.now ++ more) ≡ Ok (rows.new, rest.now ++ more))) }
-        ensures err { IfErr result (Refuses (λ more. next rows.old (bytes.now ++ more))) };
+        ensures err { IfErr result (RefusesAlready (λ more. next rows.old (bytes.now ++ more))) };
 }
 
 /// A count, and that many rows. No count takes memory: what a row needs is taken when it is there.
@@ -79,7 +79,7 @@ fn read_rows<'a, U: Repeating>(
 ) -> Result<(Progress<Many<U, U::Whole>, U::Whole>, &'a [u8]), Fault>
     ensures ok { IfOk result (λ x. ReadsOn (many_finish U.finish U.next)
         (λ more. times U.next count rows (bytes.now ++ more)) x.0 x.1.now) }
-    ensures err { IfErr result (Refuses (λ more. times U.next count rows (bytes.now ++ more))) }
+    ensures err { IfErr result (RefusesAlready (λ more. times U.next count rows (bytes.now ++ more))) }
 {
     let mut left = count;
     let mut rows = rows;

@@ -3,7 +3,7 @@ ghost use Rattle.std.specs.Prelude.{◌≡◌, ℕ, List, ◌++◌, Result, IfOk
 ghost use Rattle.rds_names.specs.declared.fault.Fault.{Fault};
 ghost use Rattle.rds_names.specs.declared.fault.Fault.TheVariants.{Memory};
 ghost use Rattle.rds_bytes.specs.Reading.{Reads, made_at};
-ghost use Rattle.rds_feeds.specs.Pieces.{ReadsOn, Refuses};
+ghost use Rattle.rds_feeds.specs.Pieces.{ReadsOn, RefusesAlready};
 ghost use Rattle.rds_feeds.specs.Parts.{WasRead};
 ghost use Rattle.rds_bytes.specs.Steady.{IsSteady};
 

@@ -1,7 +1,7 @@
 //! One value after another.
 ghost use Rattle.std.specs.Prelude.{◌≡◌, ℕ, List, ◌++◌, Result, IfOk, IfErr};
 ghost use Rattle.rds_names.specs.declared.fault.Fault.{Fault};
-ghost use Rattle.rds_feeds.specs.Pieces.{ReadsOn, Refuses};
+ghost use Rattle.rds_feeds.specs.Pieces.{ReadsOn, RefusesAlready};
 ghost use Rattle.rds_feeds.specs.Chained.{then_finish};
 
 use crate::unfinished::{Progress, Unfinished};
@@ -17,7 +17,7 @@ pub trait Following<W>: Sized + Drop {
 
     fn start(self, alloc: Global, first: W) -> Result<Self::Next, Fault>
         ensures ok { IfOk result (λ b. (more : List ℕ) → Self.after self first more ≡ Self.Next.finish b more) }
-        ensures err { IfErr result (Refuses (Self.after self first)) };
+        ensures err { IfErr result (RefusesAlready (Self.after self first)) };
 }
 
 /// A value, and then another that is made from it.
@@ -41,7 +41,7 @@ fn read_second<'a, A: Unfinished, M: Following<A::Whole>>(
 >
     ensures ok { IfOk result (λ x. ReadsOn (then_finish A.finish M.after M.Next.finish)
         (λ more. M.Next.finish second (bytes.now ++ more)) x.0 x.1.now) }
-    ensures err { IfErr result (Refuses (λ more. M.Next.finish second (bytes.now ++ more))) }
+    ensures err { IfErr result (RefusesAlready (λ more. M.Next.finish second (bytes.now ++ more))) }
 {
     let (progress, rest) = second.read_on(alloc, bytes)?;
     match progress {

@@ -1,7 +1,7 @@
 //! Values that are read as their bytes come.
 ghost use Rattle.std.specs.Prelude.{ℕ, List, ◌++◌, Result, IfOk, IfErr};
 ghost use Rattle.rds_names.specs.declared.fault.Fault.{Fault};
-ghost use Rattle.rds_feeds.specs.Pieces.{ReadsOn, Refuses};
+ghost use Rattle.rds_feeds.specs.Pieces.{ReadsOn, RefusesAlready};
 
 use rds_names::Fault;
 use std::alloc::Global;
@@ -34,5 +34,5 @@ pub trait Unfinished: Sized + Drop {
         bytes: &'a [u8],
     ) -> Result<(Progress<Self, Self::Whole>, &'a [u8]), Fault>
         ensures ok { IfOk result (λ x. ReadsOn Self.finish (λ more. Self.finish self (bytes.now ++ more)) x.0 x.1.now) }
-        ensures err { IfErr result (Refuses (λ more. Self.finish self (bytes.now ++ more))) };
+        ensures err { IfErr result (RefusesAlready (λ more. Self.finish self (bytes.now ++ more))) };
 }

@@ -10,7 +10,7 @@ use Rattle.std.proofs.lemmas.Slice.Eq.{bytes_eq-Decides}
 use Rattle.hex.proofs.HexLemmas.{IsAscii-encode_with, decode_sized-encode_lower, length-encode_with}
 use Rattle.hex.specs.Hex.{IsBytes, decode_sized, encode_lower, lower_digits}
 use Rattle.hex.specs.declared.error.FromHexError.{FromHexError}
-use Rattle.rds_fields.specs.Tags.{IsFrame, half_text, quoted}
+use Rattle.rds_fields.specs.Tags.{IsFrame, mark_half, quoted}
 
 -- two parts of the same lengths give one whole only where they are the same
 pub same_parts : (a b c d : List ℕ) → length a ≡ length c → a ++ b ≡ c ++ d → (a ≡ c) × (b ≡ d)
@@ -92,7 +92,7 @@ decoded digits bytes n result read long are is value =
 pub length-hash : (hash : List ℕ) → length hash ≡ 32 → length (encode_lower hash) ≡ 64
 length-hash hash long = let twice = length-encode_with lower_digits hash in omega (arith, twice, long)
 
-pub length-half : (half : ℕ) → length (half_text half) ≡ 16
+pub length-half : (half : ℕ) → length (mark_half half) ≡ 16
 length-half half = let twice = length-encode_with lower_digits (to_be_bytes w64 half) in omega (arith, twice)
 
 -- texts that are the same aren't told apart
@@ -111,9 +111,9 @@ are_bytes half =
     are_small (half / 72057594037927936 ∷ half / 281474976710656 ∷ half / 1099511627776 ∷ half / 4294967296 ∷ half / 16777216
     ∷ half / 65536 ∷ half / 256 ∷ half ∷ [])
 
-pub length-mark : (high low : ℕ) → length (half_text high ++ half_text low) ≡ 32
+pub length-mark : (high low : ℕ) → length (mark_half high ++ mark_half low) ≡ 32
 length-mark high low =
-    let both = length-append (half_text high) (half_text low) in
+    let both = length-append (mark_half high) (mark_half low) in
     omega (arith, both, length-half high, length-half low)
 
 -- ---- digits as texts
@@ -136,6 +136,6 @@ whole xs mid front back s =
 
 -- the halves of a mark stand in its digits
 pub halves : (digits high low : List ℕ) (of_high of_low : ℕ) → IsSplitAt digits 16 high low
-    → digits ≡ half_text of_high ++ half_text of_low → (high ≡ half_text of_high) × (low ≡ half_text of_low)
+    → digits ≡ mark_half of_high ++ mark_half of_low → (high ≡ mark_half of_high) × (low ≡ mark_half of_low)
 halves digits high low of_high of_low s is =
-    same_parts high low (half_text of_high) (half_text of_low) (s.3 ∙ sym (length-half of_high)) (sym (whole digits 16 high low s) ∙ is)
+    same_parts high low (mark_half of_high) (mark_half of_low) (s.3 ∙ sym (length-half of_high)) (sym (whole digits 16 high low s) ∙ is)

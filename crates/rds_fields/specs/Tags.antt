@@ -6,11 +6,11 @@ use Rattle.rds_questions.specs.declared.tags.Tag.{Tag}
 use Rattle.rds_state.specs.declared.mark.Mark.{Mark}
 
 -- half of a mark in hex digits
-abbrev pub half_text : ℕ → List ℕ
-half_text half = encode_lower (to_be_bytes w64 half)
+abbrev pub mark_half : ℕ → List ℕ
+mark_half half = encode_lower (to_be_bytes w64 half)
 
 abbrev pub mark_digits : Mark → List ℕ
-mark_digits mark = half_text mark.high ++ half_text mark.low
+mark_digits mark = mark_half mark.high ++ mark_half mark.low
 
 -- digits of a hash and digits of a mark, quoted, with a dash between
 abbrev pub quoted : List ℕ → List ℕ → List ℕ

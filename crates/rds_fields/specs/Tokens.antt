@@ -10,8 +10,8 @@ use Rattle.rds_names.specs.declared.fault.Fault.{Fault}
 use Rattle.rds_names.specs.declared.fault.Fault.TheVariants.{Usage}
 
 -- the values of the fields of a name
-abbrev pub values_in : Entries FieldValue → List ℕ → List (List ℕ)
-values_in headers name = map (λ v. v.bytes) (get_all headers name)
+abbrev pub field_values : Entries FieldValue → List ℕ → List (List ℕ)
+field_values headers name = map (λ v. v.bytes) (get_all headers name)
 
 -- A-Z, a-z, 0-9, '-', '.', '_', '~'
 abbrev pub is_token_byte : ℕ → Bool
@@ -55,5 +55,5 @@ is_bearing token value =
 -- header fields show the token, by a cookie that begins so or without one
 abbrev pub is_shown : List ℕ → List ℕ → Entries FieldValue → Bool
 is_shown start token headers =
-    list_any (is_bearing token) (values_in headers (codes "authorization"))
-    || list_any (has_cookie start token) (values_in headers (codes "cookie"))
+    list_any (is_bearing token) (field_values headers (codes "authorization"))
+    || list_any (has_cookie start token) (field_values headers (codes "cookie"))

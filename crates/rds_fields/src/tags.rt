@@ -5,7 +5,7 @@ ghost use Rattle.hex.specs.Hex.{IsBytes, encode_lower};
 ghost use Rattle.rds_questions.specs.Tags.{IsTag};
 ghost use Rattle.rds_questions.specs.declared.tags.Tag.{Tag as TagValue};
 ghost use Rattle.rds_state.specs.declared.mark.Mark.{Mark as MarkValue};
-ghost use Rattle.rds_fields.specs.Tags.{HoldsTagged, IsFrame, half_text, mark_digits, quoted, tag_text};
+ghost use Rattle.rds_fields.specs.Tags.{HoldsTagged, IsFrame, mark_half, mark_digits, quoted, tag_text};
 
 use hex::{decode_to_slice, encode_to_slice};
 use rds_questions::Tag;
@@ -109,8 +109,8 @@ fn mark_in(digits: &[u8]) -> Option<Mark>
 
 /// The half of a mark whose digits these are.
 fn half_in(digits: &[u8]) -> Option<u64>
-    ensures some { IfSome result (λ half. digits.now ≡ half_text half) }
-    ensures none { result ≡ None → (half : ℕ) → half < 2 ^ 64 → digits.now ≢ half_text half }
+    ensures some { IfSome result (λ half. digits.now ≡ mark_half half) }
+    ensures none { result ≡ None → (half : ℕ) → half < 2 ^ 64 → digits.now ≢ mark_half half }
 {
     let mut bytes = [0; 8];
     decode_to_slice(digits, &mut bytes).ok()?;
@@ -135,7 +135,7 @@ fn hash_digits(hash: &[u8; 32]) -> [u8; 64]
 
 /// The digits of half of a mark.
 fn half_digits(half: u64) -> [u8; 16]
-    ensures { result ≡ half_text half }
+    ensures { result ≡ mark_half half }
 {
     let mut digits = [0; 16];
     match encode_to_slice(&half.to_be_bytes(), &mut digits) {

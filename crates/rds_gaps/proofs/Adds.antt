@@ -4,7 +4,7 @@ use Rattle.std.proofs.Common.{◌∙◌, ap, arith, leb, ltb}
 use Rattle.std.proofs.lemmas.Bool.Decides.{nat_tests}
 use Rattle.rds_dots.specs.declared.dot.Run.{Run}
 use Rattle.rds_dots.specs.Runs.{start, stop, begins_past, are_maximal}
-use Rattle.rds_dots.specs.RunFacts.{Bounds, parts_of, maximal_by, spans, has, lt_of, start_stop}
+use Rattle.rds_dots.specs.RunFacts.{Bounds, run_parts, maximal_by, spans, has, lt_of, start_stop}
 use Rattle.rds_gaps.specs.Added.{stretch_of, addition, added_behind, last_start, last_start_behind}
 use Rattle.rds_gaps.proofs.Facts.{ge_of, touching, or_none, or_assoc}
 
@@ -23,13 +23,13 @@ begins-behind n r (s ∷ rs) z = refl
 
 maximal-behind : (r : Run) (rs : List Run) (z : Run) → are_maximal (r ∷ rs) ≡ true → Bounds z → last_start_behind r rs ≤ start z → are_maximal (added_behind r rs z) ≡ true
 maximal-behind r [] z max c le =
-    let p = parts_of r [] max in
+    let p = run_parts r [] max in
     elim (ltb (stop r + 1) (start z)) as (λ t. ltb (stop r + 1) (start z) ≡ t → are_maximal (cond t (r ∷ z ∷ []) (stretch_of r z ∷ [])) ≡ true) [
       | true ↦ λ t. maximal_by r (z ∷ []) p.bounds t (maximal_by z [] c refl refl)
       | false ↦ λ _. maximal_by (stretch_of r z) [] (bounds-stretch_of r z p.bounds c le) refl refl
     ] refl
 maximal-behind r (s ∷ rs) z max c le =
-    let p = parts_of r (s ∷ rs) max in
+    let p = run_parts r (s ∷ rs) max in
     maximal_by r (added_behind s rs z) p.bounds (begins-behind (stop r + 1) s rs z ∙ p.apart) (maximal-behind s rs z p.rest c le)
 
 pub maximal-addition : (rs : List Run) (z : Run) → are_maximal rs ≡ true → Bounds z → last_start rs ≤ start z → are_maximal (addition rs z) ≡ true
@@ -58,12 +58,12 @@ has-stretch_of r z b c le touch n =
 
 has-behind : (r : Run) (rs : List Run) (z : Run) → are_maximal (r ∷ rs) ≡ true → Bounds z → last_start_behind r rs ≤ start z → (n : ℕ) → has (added_behind r rs z) n ≡ (has (r ∷ rs) n || spans z n)
 has-behind r [] z max c le n =
-    let p = parts_of r [] max in
+    let p = run_parts r [] max in
     elim (ltb (stop r + 1) (start z)) as (λ t. ltb (stop r + 1) (start z) ≡ t → has (cond t (r ∷ z ∷ []) (stretch_of r z ∷ [])) n ≡ (has (r ∷ []) n || spans z n)) [
       | true ↦ λ t. or_swap (spans r n) (spans z n)
       | false ↦ λ t. has-stretch_of r z p.bounds c le (ge_of (stop r + 1) (start z) t) n
     ] refl
-has-behind r (s ∷ rs) z max c le n = ap (λ b. spans r n || b) (has-behind s rs z (parts_of r (s ∷ rs) max).rest c le n) ∙ sym (or_assoc (spans r n) (has (s ∷ rs) n) (spans z n))
+has-behind r (s ∷ rs) z max c le n = ap (λ b. spans r n || b) (has-behind s rs z (run_parts r (s ∷ rs) max).rest c le n) ∙ sym (or_assoc (spans r n) (has (s ∷ rs) n) (spans z n))
 
 pub has-addition : (rs : List Run) (z : Run) → are_maximal rs ≡ true → Bounds z → last_start rs ≤ start z → (n : ℕ) → has (addition rs z) n ≡ (has rs n || spans z n)
 has-addition [] z max c le n = or_none (spans z n)

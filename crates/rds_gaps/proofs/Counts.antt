@@ -12,8 +12,8 @@ use Rattle.rds_dots.specs.Dots.{dot_cmp, is_dot}
 use Rattle.rds_dots.specs.Order.{dots_total}
 use Rattle.rds_dots.specs.Listed.{lists, dots_from}
 use Rattle.rds_dots.specs.Sets.{contains_list, lists-dots_from}
-use Rattle.rds_dots.specs.Runs.{place, start, stop, begins_past, are_maximal}
-use Rattle.rds_dots.specs.RunFacts.{parts_of, lt_of, has_none, covers_is}
+use Rattle.rds_dots.specs.Runs.{dot_place, start, stop, begins_past, are_maximal}
+use Rattle.rds_dots.specs.RunFacts.{run_parts, lt_of, has_none, covers_is}
 use Rattle.rds_gaps.specs.RunSets.{dots_in_runs, set_of, lists-dots_of}
 
 abbrev pub total : List Run → ℕ
@@ -43,11 +43,11 @@ len_of : (rs : List Run) → are_maximal rs ≡ true → set.len (set.from_list 
 unfolding dots_in_runs
 len_of [] max = set.len-empty dot_cmp
 len_of (r ∷ rs) max =
-    let p = parts_of r rs max in
+    let p = run_parts r rs max in
     let rises = p.bounds.rises in
     len_from r.replica r.lo (r.hi + 1 - r.lo) (dots_in_runs rs) (λ s le lt.
     let d : Dot = record { replica = r.replica; seq = s } in
-    lists-dots_of rs d ∙ covers_is rs p.rest d ∙ ap (λ b. is_dot d && b) (has_none rs p.rest (stop r + 1) (place r.replica s) p.apart (omega arith)) ∙ and_no (is_dot d))
+    lists-dots_of rs d ∙ covers_is rs p.rest d ∙ ap (λ b. is_dot d && b) (has_none rs p.rest (stop r + 1) (dot_place r.replica s) p.apart (omega arith)) ∙ and_no (is_dot d))
     ∙ ap (λ n. (r.hi + 1 - r.lo) + n) (len_of rs p.rest)
     ∙ sym (sum_by-cons (λ (q : Run). q.hi + 1 - q.lo) r rs)
 
@@ -59,7 +59,7 @@ len-set_of rs max = len_of rs max
 total_fits : (rs : List Run) → are_maximal rs ≡ true → (m : ℕ) → m ≤ 72057594037927936 → begins_past m rs ≡ true → m + total rs ≤ 72057594037927936
 total_fits [] max m le begins = omega arith
 total_fits (r ∷ rs) max m le begins =
-    let p = parts_of r rs max in
+    let p = run_parts r rs max in
     let b = p.bounds in
     let small = b.small in let rises = b.rises in let most = b.most in
     let lt = lt_of m (start r) begins in
@@ -78,7 +78,7 @@ prefix_fits (r ∷ rs) (suc i) d lt =
 
 begins_past_zero : (rs : List Run) → are_maximal rs ≡ true → begins_past 0 rs ≡ true
 begins_past_zero [] max = refl
-begins_past_zero (r ∷ rs) max = let one = (parts_of r rs max).bounds.one in zero_lt (start r) (omega arith)
+begins_past_zero (r ∷ rs) max = let one = (run_parts r rs max).bounds.one in zero_lt (start r) (omega arith)
   where
     zero_lt : (n : ℕ) → 0 < n → ltb 0 n ≡ true
     zero_lt n h = grind (arith, nat_tests)

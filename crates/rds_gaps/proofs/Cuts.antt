@@ -5,10 +5,10 @@ use Rattle.std.proofs.lemmas.Bool.Decides.{nat_tests}
 use Rattle.std.proofs.lemmas.List.Folds.{list_any-append}
 use Rattle.rds_dots.specs.declared.dot.Run.{Run}
 use Rattle.rds_dots.specs.Runs.{start, stop, is_run, begins_past, are_maximal}
-use Rattle.rds_dots.specs.RunFacts.{Bounds, parts_of, is_run_by, maximal_by, spans, has, lt_of, lt_by, start_stop}
+use Rattle.rds_dots.specs.RunFacts.{Bounds, run_parts, is_run_by, maximal_by, spans, has, lt_of, lt_by, start_stop}
 use Rattle.rds_dots.specs.RunFacts.{begins_later, has_past}
 use Rattle.rds_gaps.specs.Added.{begins_from}
-use Rattle.rds_gaps.specs.Cut.{before, after}
+use Rattle.rds_gaps.specs.Cut.{before_cut, after_cut}
 use Rattle.rds_gaps.specs.Operations.{IsDifference}
 use Rattle.rds_gaps.proofs.Facts.{ge_of, touching, le_of, le_by, from_true, or_none}
 
@@ -26,7 +26,7 @@ nothing_to_cut left right out e o = record { maximal = ap are_maximal o; same = 
 
 suffix : (out ys : List Run) → are_maximal (out ++ ys) ≡ true → are_maximal ys ≡ true
 suffix [] ys h = h
-suffix (o ∷ out) ys h = suffix out ys (parts_of o (out ++ ys) h).rest
+suffix (o ∷ out) ys h = suffix out ys (run_parts o (out ++ ys) h).rest
 
 begins_on : (m n : ℕ) (zs : List Run) → m < n → begins_from n zs ≡ true → begins_past m zs ≡ true
 begins_on m n [] lt h = refl
@@ -36,10 +36,10 @@ begins_on m n (z ∷ zs) lt h = let le = le_of n (start z) h in lt_by m (start z
 instead : (out : List Run) (r : Run) (rest zs : List Run) → are_maximal (out ++ r ∷ rest) ≡ true → are_maximal zs ≡ true → begins_from (start r) zs ≡ true → are_maximal (out ++ zs) ≡ true
 instead [] r rest zs h z b = z
 instead (o ∷ []) r rest zs h z b =
-    let p = parts_of o (r ∷ rest) h in
+    let p = run_parts o (r ∷ rest) h in
     maximal_by o zs p.bounds (begins_on (stop o + 1) (start r) zs (lt_of (stop o + 1) (start r) p.apart) b) z
 instead (o ∷ q ∷ out) r rest zs h z b =
-    let p = parts_of o (q ∷ (out ++ r ∷ rest)) h in
+    let p = run_parts o (q ∷ (out ++ r ∷ rest)) h in
     maximal_by o (q ∷ (out ++ zs)) p.bounds p.apart (instead (q ∷ out) r rest zs p.rest z b)
 
 -- ---- a run that the cut doesn't reach
@@ -57,11 +57,11 @@ end_of sc ec n h = grind (arith, nat_tests)
 pub cut_missed : (out : List Run) (run : Run) (rest right l0 r0 : List Run) (cut : Run) (later : List Run) → Cutting out run rest right l0 r0 → right ≡ cut ∷ later → ltb (stop cut) (start run) ≡ true → Cutting out run rest later l0 r0
 cut_missed out run rest right l0 r0 cut later m e is =
     let lt = lt_of (stop cut) (start run) is in
-    let p = parts_of run rest (suffix out (run ∷ rest) m.are) in
+    let p = run_parts run rest (suffix out (run ∷ rest) m.are) in
     let rise = start_stop run p.bounds in
     record {
       are = m.are;
-      right_are = (parts_of cut later (ap are_maximal (sym e) ∙ m.right_are)).rest;
+      right_are = (run_parts cut later (ap are_maximal (sym e) ∙ m.right_are)).rest;
       same = λ n. drop_is (has out n) (spans run n) (has rest n) (spans cut n) (has later n) (miss (start run) (stop run) (start cut) (stop cut) n lt)
           (λ c. from_true (has rest n) (λ h. let a = has_past rest p.rest (stop run + 1) n p.apart h in let b = end_of (start cut) (stop cut) n c in absurd (omega arith)))
           ∙ ap (λ rs. has out n || (has (run ∷ rest) n && not (has rs n))) (sym e) ∙ m.same n;
@@ -84,7 +84,7 @@ piece r cut = record { replica = r.replica; lo = r.lo; hi = cut.lo - 1 }
 stop-piece : (r cut : Run) → Bounds cut → r.replica ≡ cut.replica → stop (piece r cut) ≡ start cut - 1
 stop-piece r cut d rep = let one = d.one in omega arith
 
-has-before : (r cut : Run) → Bounds r → Bounds cut → start r ≤ stop cut → (n : ℕ) → has (before r cut) n ≡ (spans r n && ltb n (start cut))
+has-before : (r cut : Run) → Bounds r → Bounds cut → start r ≤ stop cut → (n : ℕ) → has (before_cut r cut) n ≡ (spans r n && ltb n (start cut))
 has-before r cut b d reach n =
     elim (ltb (stop r) (start cut)) as (λ t. ltb (stop r) (start cut) ≡ t → has (cond t (r ∷ []) (cond (ltb (start r) (start cut)) (piece r cut ∷ []) [])) n ≡ (spans r n && ltb n (start cut))) [
       | true ↦ λ t. all_before (start r) (stop r) (start cut) n (lt_of (stop r) (start cut) t)
@@ -100,7 +100,7 @@ bounds-piece : (r cut : Run) → Bounds r → Bounds cut → r.replica ≡ cut.r
 bounds-piece r cut b d rep lt = let one = d.one in let most = d.most in let rises = d.rises in record { small = b.small; one = b.one; rises = omega arith; most = omega arith }
 
 -- what is before the cut, and maximal runs after it
-maximal-before : (r cut : Run) (zs : List Run) → Bounds r → Bounds cut → start r ≤ stop cut → are_maximal zs ≡ true → (stop r < start cut → begins_past (stop r + 1) zs ≡ true) → (start cut ≤ stop r → begins_past (start cut) zs ≡ true) → are_maximal (before r cut ++ zs) ≡ true
+maximal-before : (r cut : Run) (zs : List Run) → Bounds r → Bounds cut → start r ≤ stop cut → are_maximal zs ≡ true → (stop r < start cut → begins_past (stop r + 1) zs ≡ true) → (start cut ≤ stop r → begins_past (start cut) zs ≡ true) → are_maximal (before_cut r cut ++ zs) ≡ true
 maximal-before r cut zs b d reach max whole part =
     elim (ltb (stop r) (start cut)) as (λ t. ltb (stop r) (start cut) ≡ t → are_maximal (cond t (r ∷ []) (cond (ltb (start r) (start cut)) (piece r cut ∷ []) []) ++ zs) ≡ true) [
       | true ↦ λ t. maximal_by r zs b (whole (lt_of (stop r) (start cut) t)) max
@@ -117,7 +117,7 @@ maximal-before r cut zs b d reach max whole part =
           ] refl)
     ] refl
 
-begins-before : (r cut : Run) (zs : List Run) → begins_from (start r) zs ≡ true → begins_from (start r) (before r cut ++ zs) ≡ true
+begins-before : (r cut : Run) (zs : List Run) → begins_from (start r) zs ≡ true → begins_from (start r) (before_cut r cut ++ zs) ≡ true
 begins-before r cut zs h =
     elim (ltb (stop r) (start cut)) as (λ t. begins_from (start r) (cond t (r ∷ []) (cond (ltb (start r) (start cut)) (piece r cut ∷ []) []) ++ zs) ≡ true) [
       | true ↦ le_by (start r) (start r) (omega arith)
@@ -149,26 +149,26 @@ past_is o false false sr er sc ec n p q s hl hr = past_no o sr er sc ec n p q s
 past_is o l true sr er sc ec n p q s hl hr = past_right o l sr er sc ec n (hr refl) s
 past_is o true r sr er sc ec n p q s hl hr = past_rest o r sr er sc ec n (hl refl) s q
 
-pub cut_past : (out : List Run) (run : Run) (rest right l0 r0 : List Run) (cut : Run) (later out' : List Run) → Cutting out run rest right l0 r0 → right ≡ cut ∷ later → ltb (stop cut) (start run) ≡ false → ltb (stop cut) (stop run) ≡ true → out' ≡ out ++ before run cut → Cutting out' (after run cut) rest later l0 r0
+pub cut_past : (out : List Run) (run : Run) (rest right l0 r0 : List Run) (cut : Run) (later out' : List Run) → Cutting out run rest right l0 r0 → right ≡ cut ∷ later → ltb (stop cut) (start run) ≡ false → ltb (stop cut) (stop run) ≡ true → out' ≡ out ++ before_cut run cut → Cutting out' (after_cut run cut) rest later l0 r0
 cut_past out run rest right l0 r0 cut later out' m e missed past o =
     let reach = ge_of (stop cut) (start run) missed in
     let lt = lt_of (stop cut) (stop run) past in
-    let p = parts_of run rest (suffix out (run ∷ rest) m.are) in
-    let q = parts_of cut later (ap are_maximal (sym e) ∙ m.right_are) in
+    let p = run_parts run rest (suffix out (run ∷ rest) m.are) in
+    let q = run_parts cut later (ap are_maximal (sym e) ∙ m.right_are) in
     let b = p.bounds in
     let d = q.bounds in
     let rise = start_stop cut d in
     let rep = touching run cut b d (omega arith) (omega arith) in
     let d1 = d.rises in let d2 = d.one in let d3 = d.most in
-    let on : Bounds (after run cut) = record { small = b.small; one = omega arith; rises = omega arith; most = b.most } in
-    let starts : start (after run cut) ≡ stop cut + 1 = omega arith in
-    let left : are_maximal (after run cut ∷ rest) ≡ true = maximal_by (after run cut) rest on p.apart p.rest in
-    let zs = maximal-before run cut (after run cut ∷ rest) b d reach left (λ l. absurd (omega arith)) (λ _. lt_by (start cut) (start (after run cut)) (omega arith)) in
+    let on : Bounds (after_cut run cut) = record { small = b.small; one = omega arith; rises = omega arith; most = b.most } in
+    let starts : start (after_cut run cut) ≡ stop cut + 1 = omega arith in
+    let left : are_maximal (after_cut run cut ∷ rest) ≡ true = maximal_by (after_cut run cut) rest on p.apart p.rest in
+    let zs = maximal-before run cut (after_cut run cut ∷ rest) b d reach left (λ l. absurd (omega arith)) (λ _. lt_by (start cut) (start (after_cut run cut)) (omega arith)) in
     record {
-      are = ap (λ l. are_maximal (l ++ after run cut ∷ rest)) o ∙ ap are_maximal (append_assoc out (before run cut) (after run cut ∷ rest)) ∙ instead out run rest (before run cut ++ after run cut ∷ rest) m.are zs (begins-before run cut (after run cut ∷ rest) (le_by (start run) (start (after run cut)) (omega arith)));
+      are = ap (λ l. are_maximal (l ++ after_cut run cut ∷ rest)) o ∙ ap are_maximal (append_assoc out (before_cut run cut) (after_cut run cut ∷ rest)) ∙ instead out run rest (before_cut run cut ++ after_cut run cut ∷ rest) m.are zs (begins-before run cut (after_cut run cut ∷ rest) (le_by (start run) (start (after_cut run cut)) (omega arith)));
       right_are = q.rest;
-      same = λ n. ap (λ l. has l n || (has (after run cut ∷ rest) n && not (has later n))) o
-          ∙ ap (λ b. b || (has (after run cut ∷ rest) n && not (has later n))) (list_any-append (λ r. spans r n) out (before run cut) ∙ ap (λ b. has out n || b) (has-before run cut b d reach n))
+      same = λ n. ap (λ l. has l n || (has (after_cut run cut ∷ rest) n && not (has later n))) o
+          ∙ ap (λ b. b || (has (after_cut run cut ∷ rest) n && not (has later n))) (list_any-append (λ r. spans r n) out (before_cut run cut) ∙ ap (λ b. has out n || b) (has-before run cut b d reach n))
           ∙ ap (λ s. (has out n || (spans run n && ltb n (start cut))) || (((leb s n && leb n (stop run)) || has rest n) && not (has later n))) starts
           ∙ past_is (has out n) (has rest n) (has later n) (start run) (stop run) (start cut) (stop cut) n reach lt rise (has_past rest p.rest (stop run + 1) n p.apart) (has_past later q.rest (stop cut + 1) n q.apart)
           ∙ ap (λ rs. has out n || (has (run ∷ rest) n && not (has rs n))) (sym e) ∙ m.same n;
@@ -188,27 +188,27 @@ record Between (out rest right l0 r0 : List Run) : Type 0 where
   pub are : are_maximal (out ++ rest) ≡ true
   pub same : (n : ℕ) → (has out n || (has rest n && not (has right n))) ≡ (has l0 n && not (has r0 n))
 
-cut_ends : (out : List Run) (run : Run) (rest right l0 r0 : List Run) (cut : Run) (later out' : List Run) → Cutting out run rest right l0 r0 → right ≡ cut ∷ later → ltb (stop cut) (start run) ≡ false → ltb (stop cut) (stop run) ≡ false → out' ≡ out ++ before run cut → Between out' rest right l0 r0
+cut_ends : (out : List Run) (run : Run) (rest right l0 r0 : List Run) (cut : Run) (later out' : List Run) → Cutting out run rest right l0 r0 → right ≡ cut ∷ later → ltb (stop cut) (start run) ≡ false → ltb (stop cut) (stop run) ≡ false → out' ≡ out ++ before_cut run cut → Between out' rest right l0 r0
 cut_ends out run rest right l0 r0 cut later out' m e missed past o =
     let reach = ge_of (stop cut) (start run) missed in
     let le = ge_of (stop cut) (stop run) past in
-    let p = parts_of run rest (suffix out (run ∷ rest) m.are) in
-    let q = parts_of cut later (ap are_maximal (sym e) ∙ m.right_are) in
+    let p = run_parts run rest (suffix out (run ∷ rest) m.are) in
+    let q = run_parts cut later (ap are_maximal (sym e) ∙ m.right_are) in
     let b = p.bounds in
     let d = q.bounds in
     let rise = start_stop cut d in
     let goes = start_stop run b in
     let zs = maximal-before run cut rest b d reach p.rest (λ _. p.apart) (λ over. begins_later rest (start cut) (stop run + 1) (omega arith) p.apart) in
     record {
-      are = ap (λ l. are_maximal (l ++ rest)) o ∙ ap are_maximal (append_assoc out (before run cut) rest) ∙ instead out run rest (before run cut ++ rest) m.are zs (begins-before run cut rest (from_past (start run) (stop run + 1) rest (omega arith) p.apart));
+      are = ap (λ l. are_maximal (l ++ rest)) o ∙ ap are_maximal (append_assoc out (before_cut run cut) rest) ∙ instead out run rest (before_cut run cut ++ rest) m.are zs (begins-before run cut rest (from_past (start run) (stop run + 1) rest (omega arith) p.apart));
       same = λ n. ap (λ l. has l n || (has rest n && not (has right n))) o
-          ∙ ap (λ b. b || (has rest n && not (has right n))) (list_any-append (λ r. spans r n) out (before run cut) ∙ ap (λ b. has out n || b) (has-before run cut b d reach n))
+          ∙ ap (λ b. b || (has rest n && not (has right n))) (list_any-append (λ r. spans r n) out (before_cut run cut) ∙ ap (λ b. has out n || b) (has-before run cut b d reach n))
           ∙ ap (λ rs. (has out n || (spans run n && ltb n (start cut))) || (has rest n && not (has rs n))) e
           ∙ ends_no (has out n) (has rest n) (has later n) (start run) (stop run) (start cut) (stop cut) n le rise (has_past later q.rest (stop cut + 1) n q.apart)
           ∙ ap (λ rs. has out n || (has (run ∷ rest) n && not (has rs n))) (sym e) ∙ m.same n;
     }
 
-pub cut_next : (out : List Run) (run : Run) (rest right l0 r0 : List Run) (cut : Run) (later out' : List Run) (x : Run) (xs : List Run) → Cutting out run rest right l0 r0 → right ≡ cut ∷ later → ltb (stop cut) (start run) ≡ false → ltb (stop cut) (stop run) ≡ false → out' ≡ out ++ before run cut → rest ≡ x ∷ xs → Cutting out' x xs right l0 r0
+pub cut_next : (out : List Run) (run : Run) (rest right l0 r0 : List Run) (cut : Run) (later out' : List Run) (x : Run) (xs : List Run) → Cutting out run rest right l0 r0 → right ≡ cut ∷ later → ltb (stop cut) (start run) ≡ false → ltb (stop cut) (stop run) ≡ false → out' ≡ out ++ before_cut run cut → rest ≡ x ∷ xs → Cutting out' x xs right l0 r0
 cut_next out run rest right l0 r0 cut later out' x xs m e missed past o f =
     let w = cut_ends out run rest right l0 r0 cut later out' m e missed past o in
     record { are = ap (λ l. are_maximal (out' ++ l)) (sym f) ∙ w.are; right_are = m.right_are; same = λ n. ap (λ l. has out' n || (has l n && not (has right n))) (sym f) ∙ w.same n }
@@ -217,7 +217,7 @@ append-none : (rs : List Run) → rs ≡ rs ++ []
 append-none [] = refl
 append-none (r ∷ rs) = ap (λ l. r ∷ l) (append-none rs)
 
-pub cut_last : (out : List Run) (run : Run) (rest right l0 r0 : List Run) (cut : Run) (later out' : List Run) → Cutting out run rest right l0 r0 → right ≡ cut ∷ later → ltb (stop cut) (start run) ≡ false → ltb (stop cut) (stop run) ≡ false → out' ≡ out ++ before run cut → rest ≡ [] → IsDifference l0 r0 out'
+pub cut_last : (out : List Run) (run : Run) (rest right l0 r0 : List Run) (cut : Run) (later out' : List Run) → Cutting out run rest right l0 r0 → right ≡ cut ∷ later → ltb (stop cut) (start run) ≡ false → ltb (stop cut) (stop run) ≡ false → out' ≡ out ++ before_cut run cut → rest ≡ [] → IsDifference l0 r0 out'
 cut_last out run rest right l0 r0 cut later out' m e missed past o f =
     let w = cut_ends out run rest right l0 r0 cut later out' m e missed past o in
     record { maximal = ap are_maximal (append-none out') ∙ ap (λ l. are_maximal (out' ++ l)) (sym f) ∙ w.are; same = λ n. sym (or_none (has out' n)) ∙ ap (λ l. has out' n || (has l n && not (has right n))) (sym f) ∙ w.same n }
@@ -235,4 +235,4 @@ no_more_cuts out run rest right l0 r0 out' m e o =
     }
 
 pub run_in_hand : (out : List Run) (run : Run) (rest right l0 r0 : List Run) → Cutting out run rest right l0 r0 → is_run run ≡ true
-run_in_hand out run rest right l0 r0 m = is_run_by run (parts_of run rest (suffix out (run ∷ rest) m.are)).bounds
+run_in_hand out run rest right l0 r0 m = is_run_by run (run_parts run rest (suffix out (run ∷ rest) m.are)).bounds

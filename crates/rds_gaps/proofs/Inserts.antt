@@ -4,7 +4,7 @@ use Rattle.std.proofs.Common.{◌∙◌, ap, arith, leb, ltb, Result, Ok, Err, O
 use Rattle.std.proofs.lemmas.Bool.Decides.{nat_tests}
 use Rattle.rds_dots.specs.declared.dot.Run.{Run}
 use Rattle.rds_dots.specs.Runs.{start, stop, begins_past, are_maximal}
-use Rattle.rds_dots.specs.RunFacts.{Bounds, parts_of, maximal_by, spans, has, lt_of, lt_by, start_stop, begins_later}
+use Rattle.rds_dots.specs.RunFacts.{Bounds, run_parts, maximal_by, spans, has, lt_of, lt_by, start_stop, begins_later}
 use Rattle.rds_gaps.specs.Operations.{IsUnion}
 use Rattle.rds_gaps.specs.Inserted.{hull, insertion}
 use Rattle.rds_gaps.proofs.Facts.{ge_of, touching, or_none, or_assoc, or_last}
@@ -69,7 +69,7 @@ spans-hull r z b c p q n =
 begins-insertion : (m : ℕ) (rs : List Run) (z : Run) → are_maximal rs ≡ true → Bounds z → begins_past m rs ≡ true → m < start z → begins_past m (insertion rs z) ≡ true
 begins-insertion m [] z max c begins lt = lt_by m (start z) lt
 begins-insertion m (r ∷ rs) z max c begins lt =
-    let p = parts_of r rs max in
+    let p = run_parts r rs max in
     let first = lt_of m (start r) begins in
     let rise = start_stop r p.bounds in
     elim (ltb (stop r + 1) (start z)) as (λ t. ltb (stop r + 1) (start z) ≡ t → begins_past m (cond t (r ∷ insertion rs z) (cond (ltb (stop z + 1) (start r)) (z ∷ r ∷ rs) (insertion rs (hull r z)))) ≡ true) [
@@ -85,7 +85,7 @@ begins-insertion m (r ∷ rs) z max c begins lt =
 maximal-insertion : (rs : List Run) (z : Run) → are_maximal rs ≡ true → Bounds z → are_maximal (insertion rs z) ≡ true
 maximal-insertion [] z max c = maximal_by z [] c refl refl
 maximal-insertion (r ∷ rs) z max c =
-    let p = parts_of r rs max in
+    let p = run_parts r rs max in
     elim (ltb (stop r + 1) (start z)) as (λ t. ltb (stop r + 1) (start z) ≡ t → are_maximal (cond t (r ∷ insertion rs z) (cond (ltb (stop z + 1) (start r)) (z ∷ r ∷ rs) (insertion rs (hull r z)))) ≡ true) [
       | true ↦ λ low. maximal_by r (insertion rs z) p.bounds (begins-insertion (stop r + 1) rs z p.rest c p.apart (lt_of (stop r + 1) (start z) low)) (maximal-insertion rs z p.rest c)
       | false ↦ λ _. elim (ltb (stop z + 1) (start r)) as (λ u. ltb (stop z + 1) (start r) ≡ u → are_maximal (cond u (z ∷ r ∷ rs) (insertion rs (hull r z))) ≡ true) [
@@ -110,7 +110,7 @@ or_turn false b c = refl
 has-insertion : (rs : List Run) (z : Run) → are_maximal rs ≡ true → Bounds z → (n : ℕ) → has (insertion rs z) n ≡ (has rs n || spans z n)
 has-insertion [] z max c n = or_none (spans z n)
 has-insertion (r ∷ rs) z max c n =
-    let p = parts_of r rs max in
+    let p = run_parts r rs max in
     elim (ltb (stop r + 1) (start z)) as (λ t. ltb (stop r + 1) (start z) ≡ t → has (cond t (r ∷ insertion rs z) (cond (ltb (stop z + 1) (start r)) (z ∷ r ∷ rs) (insertion rs (hull r z)))) n ≡ (has (r ∷ rs) n || spans z n)) [
       | true ↦ λ _. ap (λ x. spans r n || x) (has-insertion rs z p.rest c n) ∙ sym (or_assoc (spans r n) (has rs n) (spans z n))
       | false ↦ λ low. elim (ltb (stop z + 1) (start r)) as (λ u. ltb (stop z + 1) (start r) ≡ u → has (cond u (z ∷ r ∷ rs) (insertion rs (hull r z))) n ≡ (has (r ∷ rs) n || spans z n)) [

@@ -4,14 +4,14 @@ use Rattle.std.proofs.Common.{get_or, refl, sym, ◌∙◌, ap, arith, leb, ltb,
 use Rattle.std.proofs.lemmas.Option.{slice_get_within, slice_get-get_or}
 use Rattle.rds_dots.specs.declared.dot.Run.{Run}
 use Rattle.rds_dots.specs.Runs.{start, stop, is_run, are_maximal}
-use Rattle.rds_dots.specs.RunFacts.{parts_of, is_run_by, lt_by}
+use Rattle.rds_dots.specs.RunFacts.{run_parts, is_run_by, lt_by}
 use Rattle.rds_gaps.specs.Added.{stretch_of, addition, added_behind, last_start, last_start_behind}
 use Rattle.rds_gaps.proofs.Facts.{not_lt, le_by}
 
 pub run_at : (rs : List Run) → are_maximal rs ≡ true → (d : Run) (i : ℕ) → i < length rs → is_run (get_or rs i d) ≡ true
 run_at [] max d i lt = absurd (omega arith)
-run_at (r ∷ rs) max d zero lt = is_run_by r (parts_of r rs max).bounds
-run_at (r ∷ rs) max d (suc i) lt = run_at rs (parts_of r rs max).rest d i (omega arith)
+run_at (r ∷ rs) max d zero lt = is_run_by r (run_parts r rs max).bounds
+run_at (r ∷ rs) max d (suc i) lt = run_at rs (run_parts r rs max).rest d i (omega arith)
 
 final : Run → List Run → Run
 final r [] = r

@@ -10,7 +10,7 @@ use Rattle.std.proofs.lemmas.Bool.Decides.{nat_tests}
 use Rattle.rds_dots.specs.declared.dot.Dot.{Dot}
 use Rattle.rds_dots.specs.declared.dot.Run.{Run}
 use Rattle.rds_dots.specs.Dots.{is_dot}
-use Rattle.rds_dots.specs.Runs.{place, start, stop, is_run, are_maximal}
+use Rattle.rds_dots.specs.Runs.{dot_place, start, stop, is_run, are_maximal}
 use Rattle.rds_dots.specs.RunFacts.{Bounds, bounds_of, lt_of, start_stop, covers_is}
 use Rattle.rds_dots.specs.RunsOf.{runs_unique}
 use Rattle.rds_gaps.specs.Added.{addition, last_start}
@@ -147,7 +147,7 @@ added_is_inserted rs z max c le =
     let a = added_union rs z max c le in
     let b = inserted_union rs z max c in
     runs_unique (addition rs z) (insertion rs z) a.maximal b.maximal (λ d.
-    covers_is (addition rs z) a.maximal d ∙ ap (λ x. is_dot d && x) (a.same (place d.replica d.seq) ∙ sym (b.same (place d.replica d.seq))) ∙ sym (covers_is (insertion rs z) b.maximal d))
+    covers_is (addition rs z) a.maximal d ∙ ap (λ x. is_dot d && x) (a.same (dot_place d.replica d.seq) ∙ sym (b.same (dot_place d.replica d.seq))) ∙ sym (covers_is (insertion rs z) b.maximal d))
 
 pub same_on_ok : {T E : Type 0} (r : Result T E) (new a b : List Run) → OnOk r (new ≡ a) → a ≡ b → OnOk r (new ≡ b)
 same_on_ok (Ok x) new a b h e = h ∙ e

@@ -11,7 +11,7 @@ use Rattle.rds_dots.specs.declared.dot.Run.{Run}
 use Rattle.rds_dots.specs.Dots.{dot_cmp, last_of, comes_after}
 use Rattle.rds_names.specs.Conditions.{less_of}
 use Rattle.rds_dots.specs.Runs.{start, stop, begins_past, are_maximal, first_after}
-use Rattle.rds_dots.specs.RunFacts.{Bounds, parts_of, start_stop, lt_of, begins_later}
+use Rattle.rds_dots.specs.RunFacts.{Bounds, run_parts, start_stop, lt_of, begins_later}
 use Rattle.rds_dots.proofs.RunWalks.{after_trans}
 use Rattle.rds_gaps.specs.Lookup.{IsParted}
 
@@ -20,7 +20,7 @@ below_of a s b t p q h = grind (arith, nat_tests)
 
 next_after : (after : Option Dot) (r : Run) → Bounds r → comes_after after (last_of r) ≡ true → (s : Run) (rs : List Run) → begins_past (stop r) (s ∷ rs) ≡ true → are_maximal (s ∷ rs) ≡ true → comes_after after (last_of s) ≡ true
 next_after after r b h s rs begins max =
-    let p = parts_of s rs max in
+    let p = run_parts s rs max in
     let l = lt_of (stop r) (start s) begins in
     let le = start_stop s p.bounds in
     after_trans after (last_of r) (last_of s) h (less_of (dot_cmp (last_of r) (last_of s)) (below_of r.replica r.hi s.replica s.hi b.most p.bounds.most (omega arith)))
@@ -30,7 +30,7 @@ later_after : (after : Option Dot) (r : Run) → Bounds r → comes_after after 
 later_after after r b h [] begins max i d lt = absurd (omega arith)
 later_after after r b h (s ∷ rs) begins max zero d lt = next_after after r b h s rs begins max
 later_after after r b h (s ∷ rs) begins max (suc i) d lt =
-    let p = parts_of s rs max in
+    let p = run_parts s rs max in
     let now = next_after after r b h s rs begins max in
     later_after after s p.bounds now rs (begins_later rs (stop s) (stop s + 1) (omega arith) p.apart) p.rest i d (omega arith)
 
@@ -38,10 +38,10 @@ pub after_at : (after : Option Dot) (rs : List Run) → are_maximal rs ≡ true 
 after_at after [] max i j d le lt h = absurd (omega arith)
 after_at after (r ∷ rs) max zero zero d le lt h = h
 after_at after (r ∷ rs) max zero (suc j) d le lt h =
-    let p = parts_of r rs max in
+    let p = run_parts r rs max in
     later_after after r p.bounds h rs (begins_later rs (stop r) (stop r + 1) (omega arith) p.apart) p.rest j d (omega arith)
 after_at after (r ∷ rs) max (suc i) zero d le lt h = absurd (omega arith)
-after_at after (r ∷ rs) max (suc i) (suc j) d le lt h = after_at after rs (parts_of r rs max).rest i j d (omega arith) (omega arith) h
+after_at after (r ∷ rs) max (suc i) (suc j) d le lt h = after_at after rs (run_parts r rs max).rest i j d (omega arith) (omega arith) h
 
 not_after : (a b : Bool) → (a ≡ true → b ≡ true) → not b ≡ true → not a ≡ true
 not_after true b on h = absurd (false≢true (ap not (sym (on refl)) ∙ h))

@@ -6,7 +6,7 @@ use Rattle.rds_dots.specs.declared.dot.Dot.{Dot}
 use Rattle.rds_dots.specs.declared.dot.Run.{Run}
 use Rattle.rds_dots.specs.Dots.{is_dot, in_run, IsRun}
 use Rattle.rds_dots.specs.Order.{dots_total, dots_exact}
-use Rattle.rds_dots.specs.Runs.{covers, place, are_maximal, first_after, runs_of}
+use Rattle.rds_dots.specs.Runs.{runs_cover, dot_place, are_maximal, first_after, runs_of}
 use Rattle.rds_dots.specs.RunFacts.{Bounds, has, covers_is, maximal_by}
 use Rattle.std.proofs.Common.{Result, Ok, Err, OnOk, OnErr}
 use Rattle.rds_gaps.specs.Added.{addition}
@@ -21,20 +21,20 @@ and_not : (d a b : Bool) → (d && (a && not b)) ≡ ((d && a) && not (d && b))
 and_not true a b = refl
 and_not false a b = refl
 
-covers_union : (l r u : List Run) → are_maximal l ≡ true → are_maximal r ≡ true → IsUnion l r u → (d : Dot) → covers u d ≡ (covers l d || covers r d)
+covers_union : (l r u : List Run) → are_maximal l ≡ true → are_maximal r ≡ true → IsUnion l r u → (d : Dot) → runs_cover u d ≡ (runs_cover l d || runs_cover r d)
 covers_union l r u lm rm is d =
-    let n = place d.replica d.seq in
+    let n = dot_place d.replica d.seq in
     covers_is u is.maximal d ∙ ap (λ b. is_dot d && b) (is.same n) ∙ and_or (is_dot d) (has l n) (has r n)
-    ∙ sym (ap (λ b. b || covers r d) (covers_is l lm d) ∙ ap (λ b. (is_dot d && has l n) || b) (covers_is r rm d))
+    ∙ sym (ap (λ b. b || runs_cover r d) (covers_is l lm d) ∙ ap (λ b. (is_dot d && has l n) || b) (covers_is r rm d))
 
 pub set_of-union : (l r u : List Run) → are_maximal l ≡ true → are_maximal r ≡ true → IsUnion l r u → set_of u ≡ set.union (set_of l) (set_of r)
 set_of-union l r u lm rm is = set.same_set dots_total dots_exact (set_of u) (set.union (set_of l) (set_of r)) (λ d.
     contains-set_of u d ∙ covers_union l r u lm rm is d
-    ∙ sym (set.contains-union dots_total (set_of l) (set_of r) d ∙ ap (λ b. b || set.contains (set_of r) d) (contains-set_of l d) ∙ ap (λ b. covers l d || b) (contains-set_of r d)))
+    ∙ sym (set.contains-union dots_total (set_of l) (set_of r) d ∙ ap (λ b. b || set.contains (set_of r) d) (contains-set_of l d) ∙ ap (λ b. runs_cover l d || b) (contains-set_of r d)))
 
 pub set_of-difference : (l r u : List Run) → are_maximal l ≡ true → are_maximal r ≡ true → IsDifference l r u → set_of u ≡ set.difference (set_of l) (set_of r)
 set_of-difference l r u lm rm is = set.same_set dots_total dots_exact (set_of u) (set.difference (set_of l) (set_of r)) (λ d.
-    let n = place d.replica d.seq in
+    let n = dot_place d.replica d.seq in
     contains-set_of u d ∙ covers_is u is.maximal d ∙ ap (λ b. is_dot d && b) (is.same n) ∙ and_not (is_dot d) (has l n) (has r n)
     ∙ sym (set.contains-difference dots_total (set_of l) (set_of r) d ∙ ap (λ b. b && not (set.contains (set_of r) d)) (contains-set_of l d ∙ covers_is l lm d) ∙ ap (λ b. (is_dot d && has l n) && not b) (contains-set_of r d ∙ covers_is r rm d)))
 
@@ -46,7 +46,7 @@ or_comm false false = refl
 
 pub set_of-insert : (old : List Run) (run : Run) (new : List Run) → are_maximal old ≡ true → are_maximal (run ∷ []) ≡ true → IsUnion old (run ∷ []) new → (d : Dot) → set.contains (set_of new) d ≡ (in_run run d || set.contains (set_of old) d)
 set_of-insert old run new om rm is d =
-    contains-set_of new d ∙ covers_union old (run ∷ []) new om rm is d ∙ or_comm (covers old d) (in_run run d) ∙ ap (λ b. in_run run d || b) (sym (contains-set_of old d))
+    contains-set_of new d ∙ covers_union old (run ∷ []) new om rm is d ∙ or_comm (runs_cover old d) (in_run run d) ∙ ap (λ b. in_run run d || b) (sym (contains-set_of old d))
 
 pub run_bounds : (run : Run) → IsRun run → run.replica ≤ 255 → Bounds run
 run_bounds run is small = let a = is.from_one in let b = is.rises in let c = is.within in record { small = small; one = a; rises = b; most = c }

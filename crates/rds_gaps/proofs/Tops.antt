@@ -8,18 +8,18 @@ use Rattle.std.proofs.lemmas.Bool.{cases_lt}
 use Rattle.rds_dots.specs.declared.dot.Dot.{Dot}
 use Rattle.rds_dots.specs.declared.dot.Run.{Run}
 use Rattle.rds_dots.specs.Dots.{in_run, IsTop}
-use Rattle.rds_dots.specs.Runs.{covers, start, stop, begins_past, are_maximal}
-use Rattle.rds_dots.specs.RunFacts.{bounds_of, parts_of, start_stop, lt_of, begins_later}
+use Rattle.rds_dots.specs.Runs.{runs_cover, start, stop, begins_past, are_maximal}
+use Rattle.rds_dots.specs.RunFacts.{bounds_of, run_parts, start_stop, lt_of, begins_later}
 use Rattle.rds_gaps.specs.Lookup.{IsParted, IsTopOf}
 use Rattle.rds_gaps.specs.RunSets.{set_of, contains-set_of}
 use Rattle.rds_gaps.proofs.Lasts.{run_at}
 
 -- where the run is that has a dot
-exists_at : (rs : List Run) (q : Dot) (d : Run) → covers rs q ≡ true → (k : ℕ) × (k < length rs) × (in_run (get_or rs k d) q ≡ true)
+exists_at : (rs : List Run) (q : Dot) (d : Run) → runs_cover rs q ≡ true → (k : ℕ) × (k < length rs) × (in_run (get_or rs k d) q ≡ true)
 exists_at [] q d h = absurd (false≢true h)
 exists_at (r ∷ rs) q d h =
     let again = exists_at rs q d in
-    elim (in_run r q) as (λ b. in_run r q ≡ b → (b || covers rs q) ≡ true → (k : ℕ) × (k < length (r ∷ rs)) × (in_run (get_or (r ∷ rs) k d) q ≡ true)) [
+    elim (in_run r q) as (λ b. in_run r q ≡ b → (b || runs_cover rs q) ≡ true → (k : ℕ) × (k < length (r ∷ rs)) × (in_run (get_or (r ∷ rs) k d) q ≡ true)) [
       | true ↦ λ is _. (0, omega arith, is)
       | false ↦ λ _ later. (let e = again later in let lt = e.1 in (suc e.0, omega arith, e.2))
     ] refl h
@@ -28,24 +28,24 @@ or_right : (a b : Bool) → b ≡ true → (a || b) ≡ true
 or_right true b h = refl
 or_right false b h = h
 
-covers_at : (rs : List Run) (q : Dot) (d : Run) (k : ℕ) → k < length rs → in_run (get_or rs k d) q ≡ true → covers rs q ≡ true
+covers_at : (rs : List Run) (q : Dot) (d : Run) (k : ℕ) → k < length rs → in_run (get_or rs k d) q ≡ true → runs_cover rs q ≡ true
 covers_at [] q d k lt h = absurd (omega arith)
-covers_at (r ∷ rs) q d zero lt h = ap (λ b. b || covers rs q) h
-covers_at (r ∷ rs) q d (suc k) lt h = or_right (in_run r q) (covers rs q) (covers_at rs q d k (omega arith) h)
+covers_at (r ∷ rs) q d zero lt h = ap (λ b. b || runs_cover rs q) h
+covers_at (r ∷ rs) q d (suc k) lt h = or_right (in_run r q) (runs_cover rs q) (covers_at rs q d k (omega arith) h)
 
 stop_past : (rs : List Run) → are_maximal rs ≡ true → (m : ℕ) → begins_past m rs ≡ true → (d : Run) (j : ℕ) → j < length rs → m ≤ stop (get_or rs j d)
 stop_past [] max m begins d j lt = absurd (omega arith)
-stop_past (r ∷ rs) max m begins d zero lt = let p = parts_of r rs max in let l = lt_of m (start r) begins in let le = start_stop r p.bounds in omega arith
+stop_past (r ∷ rs) max m begins d zero lt = let p = run_parts r rs max in let l = lt_of m (start r) begins in let le = start_stop r p.bounds in omega arith
 stop_past (r ∷ rs) max m begins d (suc j) lt =
-    let p = parts_of r rs max in let l = lt_of m (start r) begins in let le = start_stop r p.bounds in
+    let p = run_parts r rs max in let l = lt_of m (start r) begins in let le = start_stop r p.bounds in
     stop_past rs p.rest m (begins_later rs m (stop r + 1) (omega arith) p.apart) d j (omega arith)
 
 stop_rises : (rs : List Run) → are_maximal rs ≡ true → (d : Run) (k j : ℕ) → k ≤ j → j < length rs → stop (get_or rs k d) ≤ stop (get_or rs j d)
 stop_rises [] max d k j le lt = absurd (omega arith)
 stop_rises (r ∷ rs) max d zero zero le lt = omega arith
-stop_rises (r ∷ rs) max d zero (suc j) le lt = let p = parts_of r rs max in stop_past rs p.rest (stop r) (begins_later rs (stop r) (stop r + 1) (omega arith) p.apart) d j (omega arith)
+stop_rises (r ∷ rs) max d zero (suc j) le lt = let p = run_parts r rs max in stop_past rs p.rest (stop r) (begins_later rs (stop r) (stop r + 1) (omega arith) p.apart) d j (omega arith)
 stop_rises (r ∷ rs) max d (suc k) zero le lt = absurd (omega arith)
-stop_rises (r ∷ rs) max d (suc k) (suc j) le lt = stop_rises rs (parts_of r rs max).rest d k j (omega arith) (omega arith)
+stop_rises (r ∷ rs) max d (suc k) (suc j) le lt = stop_rises rs (run_parts r rs max).rest d k j (omega arith) (omega arith)
 
 not_past : (a n ρ lo hi : ℕ) → (eqb a ρ && leb lo n && leb n hi) ≡ true → hi ≤ 281474976710655 → is_lt (ordering_then (nat_cmp a ρ) (nat_cmp 281474976710655 hi)) ≡ false
 not_past a n ρ lo hi h most = grind (arith, nat_tests)
@@ -63,7 +63,7 @@ abbrev pub most_of : ℕ → Dot
 most_of replica = record { replica = replica; seq = 281474976710655 }
 
 -- a dot of the replica is in a run before the place
-before_end : (rs : List Run) → are_maximal rs ≡ true → (replica i : ℕ) → IsParted (Some (most_of replica)) rs i → (n : ℕ) (d : Run) → let q : Dot = record { replica = replica; seq = n } in covers rs q ≡ true → (k : ℕ) × (k < i) × (k < length rs) × (in_run (get_or rs k d) q ≡ true)
+before_end : (rs : List Run) → are_maximal rs ≡ true → (replica i : ℕ) → IsParted (Some (most_of replica)) rs i → (n : ℕ) (d : Run) → let q : Dot = record { replica = replica; seq = n } in runs_cover rs q ≡ true → (k : ℕ) × (k < i) × (k < length rs) × (in_run (get_or rs k d) q ≡ true)
 before_end rs max replica i parted n d h =
     let q : Dot = record { replica = replica; seq = n } in
     let e = exists_at rs q d h in
@@ -86,7 +86,7 @@ record IsLast (r : Run) (replica n : ℕ) : Type 0 where
   pub same : r.replica ≡ replica
   pub reaches : n ≤ r.hi
 
-last_has : (rs : List Run) → are_maximal rs ≡ true → (replica i : ℕ) → 0 < i → i ≤ length rs → IsParted (Some (most_of replica)) rs i → (n : ℕ) (d : Run) → let q : Dot = record { replica = replica; seq = n } in covers rs q ≡ true → IsLast (get_or rs (i - 1) d) replica n
+last_has : (rs : List Run) → are_maximal rs ≡ true → (replica i : ℕ) → 0 < i → i ≤ length rs → IsParted (Some (most_of replica)) rs i → (n : ℕ) (d : Run) → let q : Dot = record { replica = replica; seq = n } in runs_cover rs q ≡ true → IsLast (get_or rs (i - 1) d) replica n
 last_has rs max replica i pos within parted n d h =
     let e = before_end rs max replica i parted n d h in
     let k = e.0 in

@@ -5,7 +5,7 @@ use Rattle.std.proofs.lemmas.List.{drop_more}
 use Rattle.std.proofs.lemmas.Bool.Decides.{nat_tests}
 use Rattle.rds_dots.specs.declared.dot.Run.{Run}
 use Rattle.rds_dots.specs.Runs.{start, stop, are_maximal}
-use Rattle.rds_dots.specs.RunFacts.{Bounds, Parts, parts_of, spans, has, lt_of, start_stop}
+use Rattle.rds_dots.specs.RunFacts.{Bounds, RunParts, run_parts, spans, has, lt_of, start_stop}
 use Rattle.rds_gaps.specs.Added.{addition, last_start, begins_from}
 use Rattle.rds_gaps.specs.Operations.{IsUnion}
 use Rattle.rds_gaps.proofs.Facts.{le_of, le_by, or_none, or_last}
@@ -31,7 +31,7 @@ pub begin_merging : (l r : List Run) → are_maximal l ≡ true → are_maximal 
 begin_merging l r a b = record { out_are = refl; left_are = a; right_are = b; left_later = from_zero l; right_later = from_zero r; same = λ n. refl }
 
 -- what begins past a run begins from where the runs with it last_start
-later_on : (out : List Run) (x : Run) (xs : List Run) → last_start out ≤ start x → Parts x xs → begins_from (last_start (addition out x)) xs ≡ true
+later_on : (out : List Run) (x : Run) (xs : List Run) → last_start out ≤ start x → RunParts x xs → begins_from (last_start (addition out x)) xs ≡ true
 later_on out x [] le p = refl
 later_on out x (y ∷ xs) le p =
     let to = last_start-addition out x le in
@@ -50,7 +50,7 @@ moved false false l r = refl
 
 pub merge_left : (out : List Run) (x : Run) (xs right l0 r0 : List Run) → Merging out (x ∷ xs) right l0 r0 → begins_from (start x) right ≡ true → Merging (addition out x) xs right l0 r0
 merge_left out x xs right l0 r0 m first =
-    let p = parts_of x xs m.left_are in
+    let p = run_parts x xs m.left_are in
     let le = le_of (last_start out) (start x) m.left_later in
     record {
       out_are = maximal-addition out x m.out_are p.bounds le;

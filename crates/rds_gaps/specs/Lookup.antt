@@ -3,7 +3,7 @@ use Rattle.std.specs.Prelude.{◌≡◌, ℕ, ◌<◌, ◌≤◌, true, false, L
 use Rattle.rds_dots.specs.declared.dot.Dot.{Dot}
 use Rattle.rds_dots.specs.declared.dot.Run.{Run}
 use Rattle.rds_dots.specs.Dots.{last_of, comes_after}
-use Rattle.rds_dots.specs.Runs.{covers}
+use Rattle.rds_dots.specs.Runs.{runs_cover}
 
 -- the runs before the place don't end after the dot, and the others do
 pub record IsParted (after : Option Dot) (rs : List Run) (i : ℕ) : Type 0 where
@@ -12,5 +12,5 @@ pub record IsParted (after : Option Dot) (rs : List Run) (i : ℕ) : Type 0 wher
 
 -- the greatest number of the replica, 0 where there is none
 pub record IsTopOf (rs : List Run) (replica top : ℕ) : Type 0 where
-  pub at_most : (n : ℕ) → let d : Dot = record { replica = replica; seq = n } in covers rs d ≡ true → n ≤ top
-  pub there : 1 ≤ top → let d : Dot = record { replica = replica; seq = top } in covers rs d ≡ true
+  pub at_most : (n : ℕ) → let d : Dot = record { replica = replica; seq = n } in runs_cover rs d ≡ true → n ≤ top
+  pub there : 1 ≤ top → let d : Dot = record { replica = replica; seq = top } in runs_cover rs d ≡ true

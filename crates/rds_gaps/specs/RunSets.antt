@@ -10,7 +10,7 @@ use Rattle.rds_dots.specs.declared.dot.Run.{Run}
 use Rattle.rds_dots.specs.Dots.{Dots, dot_cmp, is_dot, in_run}
 use Rattle.rds_dots.specs.Listed.{lists, dots_from}
 use Rattle.rds_dots.specs.Sets.{contains_list, lists-dots_from}
-use Rattle.rds_dots.specs.Runs.{covers, are_maximal, runs_of}
+use Rattle.rds_dots.specs.Runs.{runs_cover, are_maximal, runs_of}
 use Rattle.rds_dots.specs.RunsOf.{covered_is_dot, runs_are}
 
 -- the dots of the runs, one after another
@@ -27,7 +27,7 @@ bounds : (a r s lo hi : ℕ) → (eqb a r && (leb lo s && leb (s + 1) (lo + (hi 
 bounds a r s lo hi = grind (arith, nat_tests)
 
 -- the list has the dots of the runs
-pub lists-dots_of : (rs : List Run) (d : Dot) → lists (dots_in_runs rs) d ≡ covers rs d
+pub lists-dots_of : (rs : List Run) (d : Dot) → lists (dots_in_runs rs) d ≡ runs_cover rs d
 unfolding dots_in_runs
 lists-dots_of [] d = refl
 lists-dots_of (r ∷ rs) d =
@@ -36,7 +36,7 @@ lists-dots_of (r ∷ rs) d =
     ∙ ap (λ b. in_run r d || b) (lists-dots_of rs d)
 
 -- the set has the dots of the runs
-pub contains-set_of : (rs : List Run) (d : Dot) → set.contains (set_of rs) d ≡ covers rs d
+pub contains-set_of : (rs : List Run) (d : Dot) → set.contains (set_of rs) d ≡ runs_cover rs d
 unfolding set_of
 contains-set_of rs d = contains_list (dots_in_runs rs) d ∙ lists-dots_of rs d
 

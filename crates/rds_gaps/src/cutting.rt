@@ -1,7 +1,7 @@
 //! Differences of maximal runs.
 ghost use Rattle.std.specs.Prelude.{◌≡◌, ◌+◌, ◌-◌, ◌≤◌, ◌<◌, ◌++◌, length, true, IsTrue, IfOk, OnOk};
 ghost use Rattle.rds_dots.specs.Runs.{start, stop, is_run, are_maximal};
-ghost use Rattle.rds_gaps.specs.Cut.{before};
+ghost use Rattle.rds_gaps.specs.Cut.{before_cut};
 ghost use Rattle.rds_gaps.specs.Operations.{IsDifference};
 
 use crate::order::{ends_before, ends_past};
@@ -13,7 +13,7 @@ fn add_before(runs: &mut Vec<Run>, run: &Run, cut: &Run) -> Result<(), AllocErro
     requires run_is { IsTrue (is_run run.now) }
     requires cut_is { IsTrue (is_run cut.now) }
     requires reaches { start run.now ≤ stop cut.now }
-    ensures { OnOk result (runs.new.items ≡ runs.old.items ++ before run.now cut.now) }
+    ensures { OnOk result (runs.new.items ≡ runs.old.items ++ before_cut run.now cut.now) }
 {
     if ends_before(run, cut) {
         runs.push(*run)?;

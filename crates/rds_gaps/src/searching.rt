@@ -1,6 +1,6 @@
 //! Look-ups among maximal runs: each a binary search.
 ghost use Rattle.std.specs.Prelude.{◌≡◌, ◌+◌, ◌-◌, ◌≤◌, ◌<◌, length, true, IsTrue, slice_get, Some};
-ghost use Rattle.rds_dots.specs.Runs.{covers, are_maximal, first_after};
+ghost use Rattle.rds_dots.specs.Runs.{runs_cover, are_maximal, first_after};
 ghost use Rattle.rds_gaps.specs.Lookup.{IsParted, IsTopOf};
 
 use crate::order::ends_after;
@@ -27,7 +27,7 @@ pub(crate) fn run_after(runs: &[Run], dot: Dot) -> Option<Run>
 /// Whether one of the runs has the dot.
 pub(crate) fn has(runs: &[Run], dot: Dot) -> bool
     requires { IsTrue (are_maximal runs.now) }
-    ensures { result ≡ covers runs.now dot }
+    ensures { result ≡ runs_cover runs.now dot }
 {
     if dot.seq == 0 {
         return false;

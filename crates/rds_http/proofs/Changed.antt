@@ -11,7 +11,7 @@ use Rattle.rds_state.specs.Fits.{ReplicaValue}
 use Rattle.rds_store.specs.Files.{OpenValue}
 use Rattle.rds_store.specs.Meetings.{RefusesTaking}
 use Rattle.rds_http.specs.Access.{denial}
-use Rattle.rds_http.specs.Answers.{Answers, AnswersBy, Does, DoesChange, DoesChangeAt, DoesChangeIf, DoesPost, KeepsRest, asked_in, may_change, place_in}
+use Rattle.rds_http.specs.Answers.{Answers, AnswersBy, Does, DoesChange, DoesChangeAt, DoesChangeIf, DoesPost, KeepsRest, asked_in, may_change, asked_place}
 use Rattle.rds_http.specs.Changes.{AnswersEdits, AnswersQuestion, AnswersTake, AnswersTexts, RefusesNewName}
 use Rattle.rds_http.specs.Handshakes.{headers_of}
 use Rattle.rds_http.specs.Lines.{line_count}
@@ -131,7 +131,7 @@ is_denied old request response new why denied told same = record {
 -- who is
 pub is_let_in : (old : SiteValue) (request : Request (List ℕ)) (response : Response) (new : SiteValue)
     → denial old.access (asked_in request) (headers_of request) ≡ None
-    → Does (asked_in request) (place_in request) old request response new → KeepsRest old new
+    → Does (asked_in request) (asked_place request) old request response new → KeepsRest old new
     → (response.status ≢ 200 → new ≡ old) → (may_change (asked_in request) ≡ false → new ≡ old)
     → Answers old request response new
 is_let_in old request response new none done rest refused looked = record {

@@ -9,7 +9,7 @@ use Rattle.std.specs.Net.Text.{socket_text}
 use Rattle.std.specs.declared.net.socket_addr.SocketAddr.{SocketAddr}
 use Rattle.http_header.specs.FieldValue.{FieldValue}
 use Rattle.http_header.specs.HeaderMap.{Entries}
-use Rattle.rds_fields.specs.Tokens.{cookie_start, is_shown, values_in}
+use Rattle.rds_fields.specs.Tokens.{cookie_start, is_shown, field_values}
 use Rattle.rds_http.specs.declared.access.Denied.{Denied}
 use Rattle.rds_http.specs.declared.access.Denied.TheVariants as Why
 use Rattle.rds_http.specs.declared.routes.Asked.{Asked}
@@ -50,7 +50,7 @@ sole (value ∷ other ∷ values) = None
 
 -- the host that a request names, where it names one
 abbrev pub host_in : Entries FieldValue → Option (List ℕ)
-host_in headers = sole (values_in headers (codes "host"))
+host_in headers = sole (field_values headers (codes "host"))
 
 -- the host is one that may be named, in whatever case
 abbrev pub is_among : Option (List (List ℕ)) → Option (List ℕ) → Bool
@@ -66,7 +66,7 @@ is_own_origin (Some host) origin =
 
 -- a request comes from no page, or from one of the host that it names
 abbrev pub are_own_origins : Entries FieldValue → Bool
-are_own_origins headers = list_all (is_own_origin (host_in headers)) (values_in headers (codes "origin"))
+are_own_origins headers = list_all (is_own_origin (host_in headers)) (field_values headers (codes "origin"))
 
 -- what pages of other sites may not ask for
 abbrev pub is_watched : Asked → Bool

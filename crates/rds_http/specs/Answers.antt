@@ -29,8 +29,8 @@ use Rattle.rds_http.specs.declared.routes.Post.TheVariants.{Edits, Grow, Answer,
 abbrev pub asked_in : Request (List ℕ) → Asked
 asked_in request = asked_of (head_of request).method (uri_path (head_of request).uri)
 
-abbrev pub place_in : Request (List ℕ) → List ℕ
-place_in request = place_of (uri_path (head_of request).uri)
+abbrev pub asked_place : Request (List ℕ) → List ℕ
+asked_place request = place_of (uri_path (head_of request).uri)
 
 -- what may change the document
 abbrev pub is_changing : Post → Bool
@@ -116,7 +116,7 @@ Does Ask.Unknown place old request response new = IsUnknown response
 -- who isn't let in is told so
 abbrev pub AnswersBy : Option Denied → SiteValue → Request (List ℕ) → Response → SiteValue → Type 0
 AnswersBy (Some why) old request response new = IsDenied why response
-AnswersBy None old request response new = Does (asked_in request) (place_in request) old request response new
+AnswersBy None old request response new = Does (asked_in request) (asked_place request) old request response new
 
 -- a request was answered
 pub record Answers (old : SiteValue) (request : Request (List ℕ)) (response : Response) (new : SiteValue) : Type 0 where

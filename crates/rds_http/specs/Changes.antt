@@ -46,15 +46,16 @@ pub record EditsBody (body : List ℕ) (before after : ReplicaValue) (response :
   pub told : Tells (lines_status replies) lines_of_json (replies_text replies) response
 
 -- nothing was done
-pub record Refuses (fault : Fault) (before after : ReplicaValue) (response : Response) : Type 0 where
+pub record RefusesRequest (fault : Fault) (before after : ReplicaValue) (response : Response) : Type 0 where
   pub same : after ≡ before
   pub told : TellsFault fault response
 
 -- the same, unless memory ran out, or the body has too many lines: then nothing was done
 abbrev pub AnswersEdits : List ℕ → ReplicaValue → ReplicaValue → Response → Type 0
 AnswersEdits body before after response =
-    ((line_count body ≤ MOST_LINES) × (EditsBody body before after response ⊎ Refuses Memory before after response))
-    ⊎ ((MOST_LINES < line_count body) × Refuses TooLong before after response)
+    ((line_count body ≤ MOST_LINES)
+    × (EditsBody body before after response ⊎ RefusesRequest Memory before after response))
+    ⊎ ((MOST_LINES < line_count body) × RefusesRequest TooLong before after response)
 
 -- ---- a register that is put
 
@@ -93,7 +94,7 @@ pub record GrowsRoster (name : List ℕ) (before after : ReplicaValue) (response
 abbrev pub AnswersGrowth : List ℕ → ReplicaValue → ReplicaValue → Response → Type 0
 AnswersGrowth body before after response =
     GrowsRoster body before after response
-    ⊎ ((fault : Fault) × RefusesNewName body before fault × Refuses fault before after response)
+    ⊎ ((fault : Fault) × RefusesNewName body before fault × RefusesRequest fault before after response)
 
 -- ---- takes
 
@@ -111,14 +112,14 @@ pub record TakesTexts (question answer : List ℕ) (before after : ReplicaValue)
 abbrev pub AnswersTexts : List ℕ → List ℕ → ReplicaValue → ReplicaValue → Response → Type 0
 AnswersTexts question answer before after response =
     TakesTexts question answer before after response
-    ⊎ ((fault : Fault) × RefusesTaking question answer before fault × Refuses fault before after response)
+    ⊎ ((fault : Fault) × RefusesTaking question answer before fault × RefusesRequest fault before after response)
 
 -- what a body holds was taken or refused, or it holds no two texts
 abbrev pub AnswersTake : List ℕ → ReplicaValue → ReplicaValue → Response → Type 0
 AnswersTake body before after response =
     ((question : List ℕ) × (answer : List ℕ) × HoldsBoth body question answer
     × AnswersTexts question answer before after response)
-    ⊎ Refuses Cut before after response
+    ⊎ RefusesRequest Cut before after response
 
 -- ---- what goes by a tag
 
@@ -155,7 +156,7 @@ abbrev pub AnswersPush : List ℕ → ReplicaValue → ReplicaValue → Response
 AnswersPush body before after response =
     TakesTagged body before after response
     ⊎ (((after ≡ before) × IsOfUnknown body before response)
-    ⊎ ((fault : Fault) × RefusesAsking before fault × Refuses fault before after response))
+    ⊎ ((fault : Fault) × RefusesAsking before fault × RefusesRequest fault before after response))
 
 -- ---- pulls
 

@@ -8,7 +8,7 @@ use Rattle.http_header.specs.HeaderMap.{Entries}
 use Rattle.http_server.specs.declared.response.Response.{Response}
 use Rattle.http_server.specs.Response.{IsResponse}
 use Rattle.websocket.specs.Handshake.{IsValidKey, accept_key_of}
-use Rattle.rds_fields.specs.Tokens.{values_in}
+use Rattle.rds_fields.specs.Tokens.{field_values}
 
 -- the fields of a request
 abbrev pub headers_of : Request (List ℕ) → Entries FieldValue
@@ -17,7 +17,7 @@ headers_of request = (head_of request).headers
 -- the accept key answers the key of a handshake
 abbrev pub IsAcceptOf : Entries FieldValue → List ℕ → Type 0
 IsAcceptOf headers accept =
-    (key : List ℕ) × (slice_get (values_in headers (codes "sec-websocket-key")) 0 ≡ Some key) × IsValidKey key
+    (key : List ℕ) × (slice_get (field_values headers (codes "sec-websocket-key")) 0 ≡ Some key) × IsValidKey key
     × (accept ≡ accept_key_of key)
 
 abbrev pub upgrade_fields : List ℕ → List Header

@@ -1,17 +1,13 @@
 -- What listeners are told of a turn.
 use Rattle.std.specs.Prelude.{◌≡◌, ℕ, List, ◌++◌, codes, decimal, map, Option, None, Some, true}
-use Rattle.std.specs.List.{join_with_byte}
 use Rattle.serde_json.specs.Data.{Data}
-use Rattle.serde_json.specs.Data.Data.{array, string}
+use Rattle.serde_json.specs.Data.Data.{array}
 use Rattle.serde_json.specs.View.{items_of}
 use Rattle.serde_json.specs.Written.{compact_text}
+use Rattle.rds_json.specs.Spelling.{path_data}
 use Rattle.rds_state.specs.Mark.{mark_of, mark_text}
 use Rattle.rds_state.specs.declared.mark.Mark.{Mark}
 use Rattle.rds_http.specs.Site.{SiteValue}
-
--- a path as JSON: its keys, with a slash between
-abbrev pub path_data : List (List ℕ) → Data
-path_data path = string (join_with_byte 47 path)
 
 abbrev pub paths_data : List (List (List ℕ)) → Data
 paths_data paths = array (items_of (map path_data paths))

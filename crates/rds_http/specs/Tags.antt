@@ -6,7 +6,7 @@ use Rattle.std.specs.List.{list_any, prefix_len, slice_split, suffix_len}
 use Rattle.hex.specs.Hex.{encode_lower}
 use Rattle.http_header.specs.FieldValue.{FieldValue}
 use Rattle.http_header.specs.HeaderMap.{Entries, get}
-use Rattle.rds_fields.specs.Tokens.{values_in}
+use Rattle.rds_fields.specs.Tokens.{field_values}
 use Rattle.rds_state.specs.Mark.{mark_of, mark_text}
 use Rattle.rds_state.specs.Value.{StateValue}
 use Rattle.sha2.specs.Sha256.{sha256}
@@ -66,7 +66,7 @@ is_named_by current value = (current.is_there && bytes_eq value (codes "*")) || 
 
 -- the condition of a request that wants no more of what has this tag
 abbrev pub is_known : Entries FieldValue → CurrentValue → Bool
-is_known headers current = list_any (is_named_by current) (values_in headers (codes "if-none-match"))
+is_known headers current = list_any (is_named_by current) (field_values headers (codes "if-none-match"))
 
 -- one of a list of tags, between commas, is this one, and strong
 abbrev pub has_strong_tag : List ℕ → List ℕ → Bool
@@ -81,7 +81,7 @@ is_matched_by current value = (current.is_there && bytes_eq value (codes "*")) |
 abbrev pub is_matched : Entries FieldValue → CurrentValue → Bool
 is_matched headers current =
     is_none (get headers (codes "if-match"))
-    || list_any (is_matched_by current) (values_in headers (codes "if-match"))
+    || list_any (is_matched_by current) (field_values headers (codes "if-match"))
 
 -- that, and the one of a request that changes only what doesn't have it
 abbrev pub is_met : Entries FieldValue → CurrentValue → Bool

@@ -1,6 +1,6 @@
 //! Requests for what changed, and for changes of what did not.
 ghost use Rattle.std.specs.Prelude.{◌≡◌, IfOk, codes, string_bytes};
-ghost use Rattle.rds_fields.specs.Tokens.{values_in};
+ghost use Rattle.rds_fields.specs.Tokens.{field_values};
 ghost use Rattle.rds_http.specs.Tags.{
   always,
   has_strong_tag,

@@ -2,7 +2,8 @@
 ghost use Rattle.std.specs.Prelude.{◌≡◌, ℕ, List, Option, Some, IfOk, IfSome, option_map, string_bytes};
 ghost use Rattle.std.specs.List.{join_with_byte};
 ghost use Rattle.serde_json.specs.View.{view};
-ghost use Rattle.rds_http.specs.News.{IsNews, news_json, path_data, paths_data, paths_json};
+ghost use Rattle.rds_json.specs.Spelling.{path_data};
+ghost use Rattle.rds_http.specs.News.{IsNews, news_json, paths_data, paths_json};
 ghost use Rattle.rds_http.specs.Site.{after_news};
 
 use crate::site::Site;

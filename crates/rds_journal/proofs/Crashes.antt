@@ -4,7 +4,7 @@ use Rattle.std.specs.List.{All}
 use Rattle.std.proofs.lemmas.Grind.{flat_map-append}
 use Rattle.std.proofs.lemmas.List.Elements.{All-head, All-tail}
 use Rattle.rds_bytes.proofs.Format.{ok_is}
-use Rattle.rds_journal.specs.Crashes.{Begins, ReadsSynced, ReadsWritten}
+use Rattle.rds_journal.specs.Crashes.{IsBeginning, ReadsSynced, ReadsWritten}
 use Rattle.rds_journal.specs.Records.{record_text, journal_text, record_at, IsPayload, IsBegun}
 use Rattle.rds_journal.proofs.Format.{record_format, no_text}
 
@@ -40,7 +40,7 @@ synced_is_read synced file records rest short has j =
     (on.0, on.1)
 
 read_within : (records written : List (List ℕ)) (tail : List ℕ) → All IsPayload records → All IsPayload written
-    → journal_text written ≡ journal_text records ++ tail → Begins records written
+    → journal_text written ≡ journal_text records ++ tail → IsBeginning records written
 read_within [] written tail r w e = (written, refl)
 read_within (a ∷ records) [] tail r w e = absurd (no_text a (journal_text records ++ tail) (e ∙ moved a records tail))
 read_within (a ∷ records) (b ∷ written) tail r w e =

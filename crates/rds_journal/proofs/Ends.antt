@@ -2,8 +2,8 @@
 use Rattle.std.proofs.Common.{◌≡◌, ℕ, ◌≤◌, ◌+◌, List, ◌++◌, length, take, drop, Bool, Option, Some, None, IfSome, sym, ◌∙◌, ap, subst, arith, take-take, length-take, append-nil, inl, inr}
 use Rattle.std.specs.Prelude.{option_map}
 use Rattle.std.proofs.lemmas.List.{take_all, drop_all}
-use Rattle.rds_journal.specs.Device.{written, Cut, Follows, IsWrittenShort, Only, Torn}
-use Rattle.rds_journal.specs.Appending.{appended, IsCutBack, IsEnd, IsUnwritten, KeepsFront, LeavesEnd}
+use Rattle.rds_journal.specs.Device.{written, Cut, OutcomesFollow, IsWrittenShort, Only, Torn}
+use Rattle.rds_journal.specs.Appending.{appended, IsCutBack, IsEnd, IsUnappended, KeepsFront, LeavesEnd}
 use Rattle.rds_journal.proofs.Cutting.{cut_length, cut_front}
 
 abbrev Seen : Type 0
@@ -36,12 +36,12 @@ is_appended end is_torn bytes None mid new ends cut put = put ∙ ap (option_map
 is_appended end is_torn bytes (Some file) mid new ends cut put =
     put ∙ (ap (option_map (λ file. written file end bytes)) cut ∙ ap (λ (l : List ℕ). Some l) (written_at_end end file bytes ends.within))
 
-pub stays_cut : (end : ℕ) (bytes : List ℕ) (old new : Seen) → IfSome old (λ file. IsCutBack file end new) → IfSome old (λ file. IsUnwritten file end bytes new)
+pub stays_cut : (end : ℕ) (bytes : List ℕ) (old new : Seen) → IfSome old (λ file. IsCutBack file end new) → IfSome old (λ file. IsUnappended file end bytes new)
 stays_cut end bytes None new back = tt
 stays_cut end bytes (Some file) new back = inl back
 
 pub is_short : (end : ℕ) (is_torn : Bool) (bytes : List ℕ) (old mid new : Seen) → IfSome old (IsEnd end is_torn) → mid ≡ option_map (take end) old
-    → IfSome mid (λ file. IsWrittenShort file end bytes new) → IfSome old (λ file. IsUnwritten file end bytes new)
+    → IfSome mid (λ file. IsWrittenShort file end bytes new) → IfSome old (λ file. IsUnappended file end bytes new)
 is_short end is_torn bytes None mid new ends cut short = tt
 is_short end is_torn bytes (Some file) mid new ends cut short =
     let part : IfSome (Some (take end file)) (λ file. IsWrittenShort file end bytes new) = subst (λ (s : Seen). IfSome s (λ file. IsWrittenShort file end bytes new)) cut short in
@@ -65,7 +65,7 @@ torn_keeps end most old mid new cut torn = record {
   bound = omega (arith, cut_length end old mid cut, torn.no_longer);
 }
 
-pub write_keeps : (end most : ℕ) (old mid new : List ℕ → Type 0) → Follows (Cut end) old mid → Follows (Torn end most) mid new
+pub write_keeps : (end most : ℕ) (old mid new : List ℕ → Type 0) → OutcomesFollow (Cut end) old mid → OutcomesFollow (Torn end most) mid new
     → (c : List ℕ) → new c → (d : List ℕ) × old d × KeepsFront end most d c
 write_keeps end most old mid new cut torn c left =
     let m = torn c left in
@@ -83,7 +83,7 @@ torn_leaves end most file new torn = record {
   behind = inr (omega (arith, torn.no_longer, length-take end file));
 }
 
-pub write_leaves : (end most : ℕ) (file : List ℕ) (mid new : List ℕ → Type 0) → Only (take end file) mid → Follows (Torn end most) mid new
+pub write_leaves : (end most : ℕ) (file : List ℕ) (mid new : List ℕ → Type 0) → Only (take end file) mid → OutcomesFollow (Torn end most) mid new
     → (c : List ℕ) → new c → LeavesEnd file end most c
 write_leaves end most file mid new only torn c left =
     let m = torn c left in

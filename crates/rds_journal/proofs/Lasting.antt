@@ -5,7 +5,7 @@ use Rattle.std.proofs.lemmas.List.{drop-take, take_at, take-append-le, drop-appe
 use Rattle.std.proofs.lemmas.List.Elements.{All-nil, All-cons, All-append}
 use Rattle.std.proofs.Math.Seq.{take-append-add}
 use Rattle.rds_journal.specs.Appending.{appended, KeepsFront}
-use Rattle.rds_journal.specs.Crashes.{Begins, HasSynced, HasWhole, IsLeftBy, AreLeft, last_of, OutlastsAppends, ReadsAppended}
+use Rattle.rds_journal.specs.Crashes.{IsBeginning, HasSynced, HasWhole, IsLeftBy, AreLeft, last_file, OutlastsAppends, ReadsAppended}
 use Rattle.rds_journal.specs.Records.{record_text, journal_text, IsPayload, IsBegun, IsJournal}
 use Rattle.rds_journal.proofs.Crashes.{synced_is_read, journal_more}
 use Rattle.rds_journal.proofs.Format.{no_text}
@@ -72,11 +72,11 @@ one_left start old new synced short has left =
     let same : length (journal_text left.payloads) ≡ length (journal_text (synced ++ begins.0)) = ap (λ (ps : List (List ℕ)). length (journal_text ps)) begins.1 in
     stays_synced start old new synced left.end (omega (arith, left.whole.is_end)) left.keeps.front has
 
-all_left : (start : ℕ) (first : List ℕ) (files : List (List ℕ)) (synced : List (List ℕ)) → All IsPayload synced → HasSynced synced (drop start first) → AreLeft start first files → HasSynced synced (drop start (last_of first files))
+all_left : (start : ℕ) (first : List ℕ) (files : List (List ℕ)) (synced : List (List ℕ)) → All IsPayload synced → HasSynced synced (drop start first) → AreLeft start first files → HasSynced synced (drop start (last_file first files))
 all_left start first [] synced short has left = has
 all_left start first (next ∷ files) synced short has left = all_left start next files synced short (one_left start first next synced short has left.0) left.1
 
 pub outlasts : (start : ℕ) (first : List ℕ) (files : List (List ℕ)) → OutlastsAppends start first files
 outlasts start first files payloads found end last whole left read =
-    synced_is_read payloads (drop start (last_of first files)) found read.rest whole.journal.short
+    synced_is_read payloads (drop start (last_file first files)) found read.rest whole.journal.short
     (all_left start first files payloads whole.journal.short (whole.rest, whole.journal.parts) left) read.journal

@@ -15,8 +15,8 @@ abbrev pub IsCutBack : List ℕ → ℕ → Option (List ℕ) → Type 0
 IsCutBack file end seen = (m : ℕ) × (end ≤ m) × (seen ≡ Some (take m file))
 
 -- The bytes aren't there: behind the end stands a beginning of what stood there, or of them.
-abbrev pub IsUnwritten : List ℕ → ℕ → List ℕ → Option (List ℕ) → Type 0
-IsUnwritten file end bytes seen =
+abbrev pub IsUnappended : List ℕ → ℕ → List ℕ → Option (List ℕ) → Type 0
+IsUnappended file end bytes seen =
     IsCutBack file end seen ⊎ ((k : ℕ) × (k < length bytes) × (seen ≡ Some (appended file end (take k bytes))))
 
 -- what a crash leaves is up to the end what it might have left before, and behind it has no more bytes than that one or

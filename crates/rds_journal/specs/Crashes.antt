@@ -5,8 +5,8 @@ use Rattle.rds_journal.specs.Appending.{appended, KeepsFront}
 use Rattle.rds_journal.specs.Records.{journal_text, record_text, IsPayload, IsJournal}
 
 -- the list begins with the other
-abbrev pub Begins : List (List ℕ) → List (List ℕ) → Type 0
-Begins first all = (more : List (List ℕ)) × (all ≡ first ++ more)
+abbrev pub IsBeginning : List (List ℕ) → List (List ℕ) → Type 0
+IsBeginning first all = (more : List (List ℕ)) × (all ≡ first ++ more)
 
 -- What was synced is there. Behind it there may be anything.
 abbrev pub HasSynced : List (List ℕ) → List ℕ → Type 0
@@ -19,12 +19,12 @@ IsPartOf written bytes = (lost : List ℕ) × (journal_text written ≡ bytes ++
 -- what is read where a crash left these bytes: all that was synced, whatever stands behind it
 abbrev pub ReadsSynced : List (List ℕ) → List ℕ → Type 0
 ReadsSynced synced bytes =
-    (payloads : List (List ℕ)) (rest : List ℕ) → All IsPayload synced → HasSynced synced bytes → IsJournal bytes payloads rest → Begins synced payloads
+    (payloads : List (List ℕ)) (rest : List ℕ) → All IsPayload synced → HasSynced synced bytes → IsJournal bytes payloads rest → IsBeginning synced payloads
 
 -- and nothing that wasn't written, where the bytes are a beginning of that
 abbrev pub ReadsWritten : List (List ℕ) → List ℕ → Type 0
 ReadsWritten written bytes =
-    (payloads : List (List ℕ)) (rest : List ℕ) → All IsPayload written → IsPartOf written bytes → IsJournal bytes payloads rest → Begins payloads written
+    (payloads : List (List ℕ)) (rest : List ℕ) → All IsPayload written → IsPartOf written bytes → IsJournal bytes payloads rest → IsBeginning payloads written
 
 -- ---- a file in which records stand behind so many other bytes
 
@@ -54,11 +54,11 @@ abbrev pub AreLeft : ℕ → List ℕ → List (List ℕ) → Type 0
 AreLeft start first [] = Unit {0}
 AreLeft start first (next ∷ files) = IsLeftBy start first next × AreLeft start next files
 
-abbrev pub last_of : List ℕ → List (List ℕ) → List ℕ
-last_of first [] = first
-last_of first (next ∷ files) = last_of next files
+abbrev pub last_file : List ℕ → List (List ℕ) → List ℕ
+last_file first [] = first
+last_file first (next ∷ files) = last_file next files
 
 -- what is read after however many more appends
 abbrev pub OutlastsAppends : ℕ → List ℕ → List (List ℕ) → Type 0
 OutlastsAppends start first files =
-    (payloads found : List (List ℕ)) (end last : ℕ) → HasWhole start first payloads end → AreLeft start first files → HasWhole start (last_of first files) found last → Begins payloads found
+    (payloads found : List (List ℕ)) (end last : ℕ) → HasWhole start first payloads end → AreLeft start first files → HasWhole start (last_file first files) found last → IsBeginning payloads found

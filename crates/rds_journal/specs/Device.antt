@@ -22,8 +22,8 @@ pub record Cut (n : ℕ) (old new : List ℕ) : Type 0 where
   pub front : take (length new) old ≡ new
 
 -- each new outcome of a crash is an old outcome after a step
-abbrev pub Follows : (List ℕ → List ℕ → Type 0) → (List ℕ → Type 0) → (List ℕ → Type 0) → Type 0
-Follows step old new = (c : List ℕ) → new c → (d : List ℕ) × old d × step d c
+abbrev pub OutcomesFollow : (List ℕ → List ℕ → Type 0) → (List ℕ → Type 0) → (List ℕ → Type 0) → Type 0
+OutcomesFollow step old new = (c : List ℕ) → new c → (d : List ℕ) × old d × step d c
 
 -- a crash leaves this and nothing else
 abbrev pub Only : List ℕ → (List ℕ → Type 0) → Type 0

@@ -1,7 +1,7 @@
 //! A record at the end of a file.
 ghost use Rattle.std.specs.Prelude.{◌≡◌, ℕ, List, length, option_map, take, IfSome, OnErr, OnOk, IsErrOf};
-ghost use Rattle.rds_journal.specs.Appending.{appended, IsCutBack, IsEnd, IsUnwritten, KeepsFront, LeavesEnd};
-ghost use Rattle.rds_journal.specs.Device.{Cut, Follows, HasCause, HasRisen, LeavesOnly, Only};
+ghost use Rattle.rds_journal.specs.Appending.{appended, IsCutBack, IsEnd, IsUnappended, KeepsFront, LeavesEnd};
+ghost use Rattle.rds_journal.specs.Device.{Cut, OutcomesFollow, HasCause, HasRisen, LeavesOnly, Only};
 
 use crate::device::{Device, DeviceError};
 
@@ -29,7 +29,7 @@ pub fn append<D: Device>(
     ensures durable { OnOk result (IfSome (D.seen device.old)
         (λ file. Only (appended file end text.now) (D.may_leave device.new))) }
     ensures unwritten { IsErrOf result AppendError.Unwritten → IfSome (D.seen device.old)
-        (λ file. IsUnwritten file end text.now (D.seen device.new)) }
+        (λ file. IsUnappended file end text.now (D.seen device.new)) }
     ensures unsure { IsErrOf result AppendError.Unsure →
         D.seen device.new ≡ option_map (λ file. appended file end text.now) (D.seen device.old) }
 
@@ -62,7 +62,7 @@ fn cut_off<D: Device>(device: &mut D, end: u64, is_torn: bool) -> Result<(), Dev
     ensures uncut { OnErr result (IfSome (D.seen device.old) (λ file. IsCutBack file end (D.seen device.new))) }
     ensures durable { OnOk result (IfSome (D.seen device.old)
         (λ file. Only file (D.may_leave device.old) → Only (take end file) (D.may_leave device.new))) }
-    ensures crash { Follows (Cut end) (D.may_leave device.old) (D.may_leave device.new) }
+    ensures crash { OutcomesFollow (Cut end) (D.may_leave device.old) (D.may_leave device.new) }
     ensures any_moment { LeavesOnly D.moment D.left_since device.old device.new
         (λ c. (d : List ℕ) × D.may_leave device.old d × Cut end d c) }
     ensures cause { HasCause (D.faults device.old) (D.faults device.new) result }

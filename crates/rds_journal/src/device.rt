@@ -1,6 +1,6 @@
 //! A file as the journal sees it: what stands in it, and what a crash may leave of it.
 ghost use Rattle.std.specs.Prelude.{◌≡◌, ◌≤◌, List, ℕ, Option, length, option_map, take, IfSome, OnErr, OnOk};
-ghost use Rattle.rds_journal.specs.Device.{written, Cut, Elapses, Follows, HasCause, IsWrittenShort, Only, Torn};
+ghost use Rattle.rds_journal.specs.Device.{written, Cut, Elapses, OutcomesFollow, HasCause, IsWrittenShort, Only, Torn};
 
 /// A call of a device failed.
 #[derive(Clone, Copy, Debug, PartialEq, Eq)]
@@ -31,7 +31,7 @@ pub trait Device {
         ensures written { OnOk result (seen self.new ≡ option_map (λ file. written file at bytes.now) (seen self.old)) }
         ensures short { OnErr result (IfSome (seen self.old)
             (λ file. IsWrittenShort file at bytes.now (seen self.new))) }
-        ensures crash { Follows (Torn at (length bytes.now)) (may_leave self.old) (may_leave self.new) }
+        ensures crash { OutcomesFollow (Torn at (length bytes.now)) (may_leave self.old) (may_leave self.new) }
         ensures time { Elapses (moment self.old) (moment self.new) (left_since self.old) (left_since self.new)
             (may_leave self.new) }
         ensures cause { HasCause (faults self.old) (faults self.new) result };
@@ -41,7 +41,7 @@ pub trait Device {
         requires { IfSome (seen self.old) (λ file. end ≤ length file) }
         ensures cut { OnOk result (seen self.new ≡ option_map (take end) (seen self.old)) }
         ensures uncut { OnErr result (seen self.new ≡ seen self.old) }
-        ensures crash { Follows (Cut end) (may_leave self.old) (may_leave self.new) }
+        ensures crash { OutcomesFollow (Cut end) (may_leave self.old) (may_leave self.new) }
         ensures time { Elapses (moment self.old) (moment self.new) (left_since self.old) (left_since self.new)
             (may_leave self.new) }
         ensures cause { HasCause (faults self.old) (faults self.new) result };

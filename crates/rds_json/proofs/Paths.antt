@@ -11,7 +11,7 @@ use Rattle.rds_names.specs.declared.fault.Fault.TheVariants.{BadKey, BadPath}
 use Rattle.rds_names.specs.declared.scalar.Scalar.{Scalar}
 use Rattle.rds_names.specs.declared.scalar.Scalar.TheVariants.{Null, Bool as Truth, Int, Text}
 use Rattle.rds_names.specs.Key.{is_key}
-use Rattle.rds_names.specs.Path.{path_of, pieces, cut}
+use Rattle.rds_names.specs.Path.{path_of, pieces, segments}
 use Rattle.rds_json.specs.Limits.{IsPath, FitsScalar}
 use Rattle.rds_json.specs.Scalar.{scalar_of}
 use Rattle.rds_json.specs.Show.{scalar_data}
@@ -42,7 +42,7 @@ no_slash (b ∷ bs) h (suc k) d lt = no_slash bs (tail_of (b == 47) _ h) k d (om
 key_whole : (k : List ℕ) → is_key k ≡ true → All (λ b. (b == 47) ≡ false) k
 key_whole k h = no_slash k (and_right (nat_le 1 (length k) && nat_le (length k) 64) _ h)
 
-cut_joined : (k : List ℕ) (ks : List (List ℕ)) → list_all is_key (k ∷ ks) ≡ true → cut (join_with_byte 47 (k ∷ ks)) ≡ k ∷ ks
+cut_joined : (k : List ℕ) (ks : List (List ℕ)) → list_all is_key (k ∷ ks) ≡ true → segments (join_with_byte 47 (k ∷ ks)) ≡ k ∷ ks
 cut_joined k [] h = slice_split_none _ k (key_whole k (and_left (is_key k) _ h))
 cut_joined k (l ∷ ks) h =
     slice_split_at (λ b. b == 47) k 47 (join_with_byte 47 (l ∷ ks)) (key_whole k (and_left (is_key k) _ h)) refl

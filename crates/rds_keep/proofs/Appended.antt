@@ -7,7 +7,7 @@ use Rattle.rds_bytes.specs.Values.{IsMember}
 use Rattle.rds_codec.specs.StateTexts.{IsStateOf}
 use Rattle.rds_codec.specs.declared.formats.Format.{Format}
 use Rattle.rds_dots.specs.declared.dot.Dot.{Dot}
-use Rattle.rds_life.specs.Life.{Agree, AreCompatible as AreAlike, Conflicts, Dead, Life, Live, Lived, join_life}
+use Rattle.rds_life.specs.Life.{Agree, LivesAreCompatible as AreAlike, Conflicts, Dead, Life, Live, Lived, join_life}
 use Rattle.rds_state.specs.Coordinates.{AreCompatible, Coordinates}
 use Rattle.rds_state.specs.Fits.{Fits, ReplicaValue}
 use Rattle.rds_state.specs.Value.{coordinates}

@@ -11,7 +11,8 @@ use Rattle.rds_codec.specs.Decoding.{Decodes, IsOtherFault, all_of}
 use Rattle.rds_codec.specs.Kinds.{Kind}
 use Rattle.rds_codec.specs.declared.limits.TheConstants.{LIMIT}
 use Rattle.rds_keep.specs.Counted.{CountedValue, most_read}
-use Rattle.rds_keep.specs.Feeding.{FeedValue, AreBytes, DecodesTexts, HasText, StandsFor, StandsOrFails, Adds, Refuses, IsDecoded, IsReadAs, IsRefused, Takes, Feeds, decoding}
+use Rattle.rds_codec.specs.Laws.{HasText}
+use Rattle.rds_keep.specs.Feeding.{FeedValue, EachIsByte, DecodesTexts, StandsFor, StandsOrFails, AddsPiece, RefusesPiece, IsDecoded, IsReadAs, IsRefused, Takes, Feeds, decoding}
 use Rattle.rds_keep.proofs.FeedSteps.{as_it_is, bytes-append}
 use Rattle.std.proofs.lemmas.Bool.{le-ltb}
 use Rattle.rds_keep.specs.Parts.{ConsumesAtMost}
@@ -34,15 +35,15 @@ module _ {U V : Type 0} (finish : U → Reader V) where
   same_fault d e p is same = cc
 
   -- a piece that was taken without a fault
-  pub all_taken : (old new : FeedValue U V) (piece : List ℕ) (u : Unit {0}) → Adds finish old new piece → IfErr old.progress (λ e. Ok u ≡ Err e) → Takes finish old new piece
+  pub all_taken : (old new : FeedValue U V) (piece : List ℕ) (u : Unit {0}) → AddsPiece finish old new piece → IfErr old.progress (λ e. Ok u ≡ Err e) → Takes finish old new piece
   all_taken old new piece u adds again reader came has = elim has [
     | inl stands ↦ inl (adds reader came stands)
     | inr fails ↦ absurd (let wrong : Ok u ≡ Err fails.fault = rw fails.kept at again in cc)
   ]
 
   -- one that was refused, or that comes after a fault
-  pub all_refused : (old new : FeedValue U V) (piece : List ℕ) (e : Fault) (r : Result (Unit {0}) Fault) → r ≡ Err e → new.progress ≡ Err e → Refuses finish old piece e
-      → IfErr old.progress (λ d. r ≡ Err d) → (e ≡ Memory → ⊥) → AreBytes piece → Takes finish old new piece
+  pub all_refused : (old new : FeedValue U V) (piece : List ℕ) (e : Fault) (r : Result (Unit {0}) Fault) → r ≡ Err e → new.progress ≡ Err e → RefusesPiece finish old piece e
+      → IfErr old.progress (λ d. r ≡ Err d) → (e ≡ Memory → ⊥) → EachIsByte piece → Takes finish old new piece
   all_refused old new piece e r is kept refuses again memory bytes reader came has = elim has [
     | inl stands ↦ elim refuses [
       | inl wrong ↦ absurd (memory wrong)
@@ -86,7 +87,7 @@ module _ {U V : Type 0} (finish : U → Reader V) where
 
   -- ---- all that there is
 
-  abbrev bytes_of : (reader : Reader V) (feed : FeedValue U V) (came : List ℕ) → StandsOrFails finish reader feed came → AreBytes came
+  abbrev bytes_of : (reader : Reader V) (feed : FeedValue U V) (came : List ℕ) → StandsOrFails finish reader feed came → EachIsByte came
   bytes_of reader feed came has = elim has [ inl stands ↦ stands.bytes | inr fails ↦ fails.bytes ]
 
   -- what its end is, where it stood or failed for all that came

@@ -11,7 +11,7 @@ use Rattle.rds_feeds.specs.Pieces as pieces
 use Rattle.rds_bytes.specs.Reading.{Reader, Reads, Fails, ◌>>=◌}
 use Rattle.rds_codec.specs.Decoding.{Decodes, all_of}
 use Rattle.rds_codec.specs.Kinds.{Kind}
-use Rattle.rds_keep.specs.Feeding.{DecodesTexts, FeedValue, AreBytes, decoding, read_on, read_behind, ending, StandsFor, Adds, Refuses, GoesOn, Ends}
+use Rattle.rds_keep.specs.Feeding.{DecodesTexts, FeedValue, EachIsByte, decoding, read_on, read_behind, ending, StandsFor, AddsPiece, RefusesPiece, GoesOn, Ends}
 use Rattle.rds_codec.specs.declared.limits.TheConstants.{LIMIT}
 
 module _ {U V : Type 0} (finish : U → Reader V) where
@@ -31,7 +31,7 @@ module _ {U V : Type 0} (finish : U → Reader V) where
   refused_all read bytes e is = rw is refl
 
   pub block_refused : (u : U) (held block bytes : List ℕ) (e : Fault) → bytes ≡ held ++ block
-      → pieces.Refuses (λ more. finish u (bytes ++ more)) e → Ends finish (More u) held block e
+      → pieces.RefusesAlready (λ more. finish u (bytes ++ more)) e → Ends finish (More u) held block e
   block_refused u held block bytes e is r = elim r [
     | inl memory ↦ inl memory
     | inr never ↦ inr (λ more. refused_all (finish u) (held ++ (block ++ more)) e (ap (finish u) (joined held block bytes more is) ∙ never.1 more))
@@ -88,7 +88,7 @@ module _ {U V : Type 0} (finish : U → Reader V) where
       → all_of (read_on finish (More u)) rest ≡ Err Cut
   cut_ends u n rest after reads cut = refused_all (finish u) rest Cut (sym (here u rest) ∙ reads [] ∙ here n after ∙ cut)
 
-  pub refused_ends : (u : U) (rest : List ℕ) (e : Fault) → pieces.Refuses (λ more. finish u (rest ++ more)) e → Reads {X = V} (λ w. w) (Err e) (all_of (read_on finish (More u)) rest)
+  pub refused_ends : (u : U) (rest : List ℕ) (e : Fault) → pieces.RefusesAlready (λ more. finish u (rest ++ more)) e → Reads {X = V} (λ w. w) (Err e) (all_of (read_on finish (More u)) rest)
   refused_ends u rest e r = fails e (all_of (finish u) rest) (elim r [ inl memory ↦ inl memory | inr never ↦ inr (refused_all (finish u) rest e (sym (here u rest) ∙ never.1 [])) ])
 
   pub ends_as : (reader : Reader V) (came : List ℕ) (feed : FeedValue U V) (p : Progress U V) (r : Result V Fault) → feed.progress ≡ Ok p
@@ -101,7 +101,7 @@ module _ {U V : Type 0} (finish : U → Reader V) where
 
   -- ---- a piece that is fed
 
-  pub bytes-append : (a b : List ℕ) → AreBytes a → AreBytes b → AreBytes (a ++ b)
+  pub bytes-append : (a b : List ℕ) → EachIsByte a → EachIsByte b → EachIsByte (a ++ b)
   bytes-append a b p q i = elim (cases_lt i (length a)) [
     | inl lt ↦ rw (get_or_append_left a b 0 i lt) (p i)
     | inr le ↦ rw (get_or-append_right a b i 0 le) (q (i - length a))
@@ -127,8 +127,8 @@ module _ {U V : Type 0} (finish : U → Reader V) where
         ∙ ap (λ (o : Result (Progress U V) Fault). cond (ltb (old.left - length piece) (length more)) (Err TooLong) (all_of (read_behind finish o old.rest) (piece ++ more))) is
         ∙ ap (λ (t : List ℕ). cond (ltb (old.left - length piece) (length more)) (Err TooLong) (all_of (read_behind finish (Ok p) t) (piece ++ more))) rest_is
 
-    pub piece_adds : (next : Progress U V) (rest : List ℕ) → AreBytes piece → GoesOn finish p held piece next rest
-        → Adds finish old (record { progress = Ok next; rest = rest; left = old.left - length piece }) piece
+    pub piece_adds : (next : Progress U V) (rest : List ℕ) → EachIsByte piece → GoesOn finish p held piece next rest
+        → AddsPiece finish old (record { progress = Ok next; rest = rest; left = old.left - length piece }) piece
     piece_adds next rest bytes goes reader came stands = record {
       going = refl;
       bytes = bytes-append came piece stands.bytes bytes;
@@ -137,7 +137,7 @@ module _ {U V : Type 0} (finish : U → Reader V) where
           ∙ ap (λ (r : Result (V × List ℕ) Fault). cond (ltb (old.left - length piece) (length more)) (Err TooLong) (ended_of r)) (goes more);
     }
 
-    pub piece_refuses : (e : Fault) → Ends finish p held piece e → Refuses finish old piece e
+    pub piece_refuses : (e : Fault) → Ends finish p held piece e → RefusesPiece finish old piece e
     piece_refuses e ends = elim ends [
       | inl memory ↦ inl memory
       | inr never ↦ inr (λ reader came stands. (
@@ -151,7 +151,7 @@ module _ {U V : Type 0} (finish : U → Reader V) where
           }))
     ]
 
-  pub piece_too_long : (old : FeedValue U V) (piece : List ℕ) → old.left < length piece → Refuses finish old piece TooLong
+  pub piece_too_long : (old : FeedValue U V) (piece : List ℕ) → old.left < length piece → RefusesPiece finish old piece TooLong
   piece_too_long old piece long = inr (λ reader came stands.
       (let over : ltb LIMIT (length (came ++ piece)) ≡ true = lt-ltb LIMIT (length (came ++ piece)) (omega (arith, long, stands.room, length-append came piece)) in
       record {

@@ -19,7 +19,7 @@ use Rattle.rds_journal.proofs.Format.{length_record, no_text}
 use Rattle.rds_keep.specs.Changes.{ChangeValue}
 use Rattle.rds_keep.specs.Kept.{AreWhole, EndsAs, IsApart, IsFile, IsKept, IsStored, RefusesBytes, new_layout, records_text}
 use Rattle.rds_keep.specs.Replay.{RefusesRest, ReplayValue, TakesRecords}
-use Rattle.rds_keep.specs.Stored.{IsAllOf, IsFirst, IsFront, RefusesEnd, first_and, front_and}
+use Rattle.rds_keep.specs.Stored.{IsAllOf, IsSummedSnapshot, IsFront, RefusesEnd, first_and, front_and}
 use Rattle.rds_keep.specs.Sums.{CutsSum, HasOtherSum, file_text, sum_payload, sum_text, summed_text}
 use Rattle.rds_keep.specs.declared.layout.Layout.{Layout}
 use Rattle.rds_keep.proofs.Chains.{ends_after, ends_torn}
@@ -110,7 +110,7 @@ stored_ends format b first count behind w layout is alone s = elim (stored_eithe
 ]
 
 -- nothing is, where the record of another checksum stands first
-pub none_summed : (format : Format) (first : ReplicaValue) (count : ℕ) (sum behind : List ℕ) (w : ReplicaValue) (layout : Layout) → IsFirst format first count sum → HasOtherSum sum behind → IsStored (first_and format first behind) w layout → ⊥
+pub none_summed : (format : Format) (first : ReplicaValue) (count : ℕ) (sum behind : List ℕ) (w : ReplicaValue) (layout : Layout) → IsSummedSnapshot format first count sum → HasOtherSum sum behind → IsStored (first_and format first behind) w layout → ⊥
 none_summed format first count sum behind w layout is other s =
     let text = snapshot_text_in format first in
     let same = stored_parts format first behind (first_and format first behind) w layout is.value is.within refl s in
@@ -118,7 +118,7 @@ none_summed format first count sum behind w layout is other s =
     other_behind s.file.is_summed text behind (stored_rest s) here (λ told more short e. no_sum_stored (first_and format first behind) w layout s told more short e) same.1
 
 -- nor where the rest of a checksum's record is behind it
-pub none_cut : (format : Format) (first : ReplicaValue) (count : ℕ) (sum behind : List ℕ) (w : ReplicaValue) (layout : Layout) → IsFirst format first count sum → CutsSum (snapshot_text_in format first) behind
+pub none_cut : (format : Format) (first : ReplicaValue) (count : ℕ) (sum behind : List ℕ) (w : ReplicaValue) (layout : Layout) → IsSummedSnapshot format first count sum → CutsSum (snapshot_text_in format first) behind
     → IsStored (first_and format first behind) w layout → ⊥
 none_cut format first count sum behind w layout is cuts s =
     let text = snapshot_text_in format first in

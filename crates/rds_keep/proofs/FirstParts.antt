@@ -19,13 +19,13 @@ use Rattle.rds_state.specs.Fits.{ReplicaValue}
 use Rattle.rds_journal.specs.Records.{record_text}
 use Rattle.rds_journal.specs.declared.records.TheConstants.{MOST, HEAD}
 use Rattle.rds_keep.specs.Counted.{most_read}
-use Rattle.rds_keep.specs.Feeding.{AreBytes}
+use Rattle.rds_keep.specs.Feeding.{EachIsByte}
 use Rattle.rds_keep.specs.Kept.{AreWhole, RefusesBytes}
 use Rattle.rds_keep.specs.Leading.{Leads, RefusesFront}
 use Rattle.rds_keep.specs.Parts.{ConsumesAtMost}
 use Rattle.rds_keep.specs.Replay.{HoldsMore}
 use Rattle.rds_keep.specs.Snapshots.{IsForeign, IsMagic, IsShort}
-use Rattle.rds_keep.specs.Stored.{IsAllOf, IsFirst, IsFront, LosesFirst, LosesFront, first_and, front_and}
+use Rattle.rds_keep.specs.Stored.{IsAllOf, IsSummedSnapshot, IsFront, LosesFirst, LosesFront, first_and, front_and}
 use Rattle.rds_keep.specs.Sums.{CutsSum, HasNoSum, HasOtherSum, sum_payload, sum_text, summed_text}
 use Rattle.rds_keep.proofs.Files.{front_is, none_cut, none_stored, none_summed, read_again}
 use Rattle.rds_keep.proofs.SumTexts.{cut_short, other_more, sum_length}
@@ -168,7 +168,7 @@ module _ (read : Reader Snapshot) (same : (bytes : List ℕ) → read bytes ≡ 
 -- ---- the record of its checksum
 
 -- a front has so many bytes
-pub is_front : (format : Format) (b : Bool) (v : ReplicaValue) (count : ℕ) (sum : List ℕ) (total : ℕ) → IsFirst format v count sum → total ≡ count + cond b 69 0 → IsFront format b v total
+pub is_front : (format : Format) (b : Bool) (v : ReplicaValue) (count : ℕ) (sum : List ℕ) (total : ℕ) → IsSummedSnapshot format v count sum → total ≡ count + cond b 69 0 → IsFront format b v total
 is_front format b v count sum total is same = record {
   value = is.value;
   size = (let size = is.size in omega (arith, size, same, sum_size b, length-append (snapshot_text_in format v) (sum_text b (snapshot_text_in format v))));
@@ -203,12 +203,12 @@ no_cut_more bytes behind more end none cuts =
     none (subst (CutsSum bytes) (ap (λ (t : List ℕ). behind ++ t) (end few) ∙ append-nil behind) cuts)
 
 -- that of another does
-pub other_refused : (format : Format) (v : ReplicaValue) (count : ℕ) (sum behind more : List ℕ) (e : Fault) → IsFirst format v count sum → (e ≡ Bad) × HasOtherSum sum behind → RefusesBytes (first_and format v (behind ++ more)) e
+pub other_refused : (format : Format) (v : ReplicaValue) (count : ℕ) (sum behind more : List ℕ) (e : Fault) → IsSummedSnapshot format v count sum → (e ≡ Bad) × HasOtherSum sum behind → RefusesBytes (first_and format v (behind ++ more)) e
 other_refused format v count sum behind more e is other =
     rw (other.0) (λ w layout s. none_summed format v count sum (behind ++ more) w layout is (other_more sum behind more other.1) s)
 
 -- the rest of one does
-pub cut_refused : (format : Format) (v : ReplicaValue) (count : ℕ) (sum behind more : List ℕ) → IsFirst format v count sum → CutsSum (snapshot_text_in format v) behind → (length behind ≤ MOST + HEAD → more ≡ [])
+pub cut_refused : (format : Format) (v : ReplicaValue) (count : ℕ) (sum behind more : List ℕ) → IsSummedSnapshot format v count sum → CutsSum (snapshot_text_in format v) behind → (length behind ≤ MOST + HEAD → more ≡ [])
     → RefusesBytes (first_and format v (behind ++ more)) Bad
 cut_refused format v count sum behind more is cuts end =
     let few : length behind ≤ MOST + HEAD = omega (arith, cut_short (snapshot_text_in format v) behind cuts) in
@@ -273,7 +273,7 @@ none_whole (Some input) = λ some. absurd (omega (arith, some))
 -- ---- bytes that are there
 
 -- the snapshot that they begin with
-module _ (read : Reader Snapshot) (same : (t : List ℕ) → read t ≡ snapshot_in_at t) (bytes rest : List ℕ) (s : Snapshot) (fits : AreBytes bytes) (reads : (more : List ℕ) → read (bytes ++ more) ≡ Ok (s, rest ++ more)) where
+module _ (read : Reader Snapshot) (same : (t : List ℕ) → read t ≡ snapshot_in_at t) (bytes rest : List ℕ) (s : Snapshot) (fits : EachIsByte bytes) (reads : (more : List ℕ) → read (bytes ++ more) ≡ Ok (s, rest ++ more)) where
   pub step_is : (bytes ≡ first_and s.0 s.1 rest) × IsSnapshot s.1
   step_is =
       let found : snapshot_in_at bytes ≡ Ok (s, rest) = sym (same bytes) ∙ ap read (sym (append-nil bytes)) ∙ reads [] ∙ ap (read_as s) (append-nil rest) in

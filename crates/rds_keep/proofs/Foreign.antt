@@ -13,7 +13,7 @@ use Rattle.rds_codec.specs.declared.formats.Format.{Format}
 use Rattle.rds_codec.specs.declared.formats.Format.TheVariants.{One, Two}
 use Rattle.rds_codec.specs.declared.limits.TheConstants.{LIMIT}
 use Rattle.rds_keep.specs.Feeding.{IsHopeless, decoding}
-use Rattle.rds_keep.specs.Snapshots.{IsForeign, IsAnswerTo}
+use Rattle.rds_keep.specs.Snapshots.{IsForeign, IsDecodedInput}
 use Rattle.rds_keep.proofs.Fronts.{magic_has_four, none_foreign, read_is, read_by, or_none}
 
 -- ---- what it is answered
@@ -55,7 +55,7 @@ decodes_bad input is within = record {
   other = inr (inr (inr (inr refl)));
 }
 
-pub foreign_is_bad : (input : List ℕ) → IsForeign input → IsAnswerTo input (Err Bad)
+pub foreign_is_bad : (input : List ℕ) → IsForeign input → IsDecodedInput input (Err Bad)
 foreign_is_bad input is = record {
   foreign = λ _. refl;
   own = λ no. absurd (no is);
@@ -94,7 +94,7 @@ decodes_cut input short = record {
   other = inr (inr (inr (inl refl)));
 }
 
-pub short_is_cut : (input : List ℕ) → length input < 4 → IsAnswerTo input (Err Cut)
+pub short_is_cut : (input : List ℕ) → length input < 4 → IsDecodedInput input (Err Cut)
 short_is_cut input short =
     let decoded : DecodesSnapshot input (Err Cut) = (Err Cut, decodes_cut input short, (λ _. reads_cut input short), refl) in
     record { foreign = λ is. absurd (let four = is.0 in omega (arith, short, four)); own = λ _. decoded; within = λ _. decoded }

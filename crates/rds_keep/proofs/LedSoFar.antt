@@ -15,7 +15,7 @@ use Rattle.rds_feeds.specs.declared.unfinished.Progress.{Progress}
 use Rattle.rds_feeds.specs.declared.unfinished.Progress.TheVariants.{More, Whole}
 use Rattle.rds_feeds.specs.Pieces.{ReadsOn}
 use Rattle.rds_keep.specs.Counted.{CountedValue, most_read}
-use Rattle.rds_keep.specs.Feeding.{AreBytes}
+use Rattle.rds_keep.specs.Feeding.{EachIsByte}
 use Rattle.rds_keep.proofs.FeedSteps.{bytes-append}
 use Rattle.rds_keep.specs.Leading.{Leads, RefusesFront, RefusesStep}
 
@@ -26,7 +26,7 @@ module _ {R U V : Type 0} (remaining : R → Option (List ℕ)) (finish : U → 
     pub consumed : Consumes (remaining first.inner) (remaining now.inner) given
     pub same : (more : List ℕ) → finish begun (front ++ (given ++ more)) ≡ finish unfinished (held ++ more)
     pub size : count ≡ length front + length given
-    pub bytes : AreBytes (front ++ given)
+    pub bytes : EachIsByte (front ++ given)
     pub spent : length given ≤ most_read (first.left - now.left)
     pub steady : now.failed ≡ first.failed
     pub left : now.left ≤ first.left
@@ -61,10 +61,10 @@ module _ {U V : Type 0} (finish : U → Reader V) where
       ∙ ap (finish u) (sym (append_assoc rest (appended_bytes rest held) more) ∙ ap (λ (t : List ℕ). t ++ more) (sym (starts_with_rest held rest kept)))
 
   -- they are bytes
-  pub more_bytes : (front given rest held : List ℕ) → StartsWith held rest → AreBytes (front ++ given) → AreBytes held → AreBytes (front ++ (given ++ appended_bytes rest held))
+  pub more_bytes : (front given rest held : List ℕ) → StartsWith held rest → EachIsByte (front ++ given) → EachIsByte held → EachIsByte (front ++ (given ++ appended_bytes rest held))
   more_bytes front given rest held kept first bytes =
-      let later : AreBytes (appended_bytes rest held) = λ i. (rw get_or-drop (bytes (length rest + i))) in
-      subst AreBytes (append_assoc front given (appended_bytes rest held)) (bytes-append finish (front ++ given) (appended_bytes rest held) first later)
+      let later : EachIsByte (appended_bytes rest held) = λ i. (rw get_or-drop (bytes (length rest + i))) in
+      subst EachIsByte (append_assoc front given (appended_bytes rest held)) (bytes-append finish (front ++ given) (appended_bytes rest held) first later)
 
   -- all that was read is hashed, but for the last bytes
   pub hashed_on : (front given rest held hashed fresh : List ℕ) → front ++ given ≡ hashed ++ fresh → StartsWith held rest → front ++ (given ++ appended_bytes rest held) ≡ (hashed ++ fresh) ++ drop (length rest) held
@@ -81,7 +81,7 @@ module _ {U V : Type 0} (finish : U → Reader V) where
 
   -- the value is whole
   pub leads : (begun u : U) (front given held rest hashed last : List ℕ) (hasher : Sha256) (before after : Option (List ℕ)) (count : ℕ) (p : Progress U V) (v : V) → p ≡ Whole v → Led begun front given u held → Consumes before after given
-      → count ≡ length front + length given → AreBytes (front ++ given) → ReadsOn finish (λ more. finish u (held ++ more)) p rest → Holds256 hasher hashed → front ++ given ≡ hashed ++ last → (hashed ≡ []) ⊎ (finish begun hashed ≡ Err Cut)
+      → count ≡ length front + length given → EachIsByte (front ++ given) → ReadsOn finish (λ more. finish u (held ++ more)) p rest → Holds256 hasher hashed → front ++ given ≡ hashed ++ last → (hashed ≡ []) ⊎ (finish begun hashed ≡ Err Cut)
       → Leads (finish begun) front before after v count rest hasher last
   leads begun u front given held rest hashed last hasher before after count p v is led consumed size bytes reads holds parts short =
       let on : ReadsOn finish (λ more. finish u (held ++ more)) (Whole v) rest = subst (λ (q : Progress U V). ReadsOn finish (λ more. finish u (held ++ more)) q rest) is reads in

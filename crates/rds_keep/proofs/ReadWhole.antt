@@ -11,7 +11,7 @@ use Rattle.rds_codec.specs.declared.formats.Format.{Format}
 use Rattle.rds_codec.specs.declared.limits.TheConstants.{LIMIT}
 use Rattle.rds_bytes.specs.Reading.{Reader}
 use Rattle.rds_keep.specs.Counted.{CountedValue, HasFailed, most_read}
-use Rattle.rds_keep.specs.Feeding.{FeedValue, StandsFor, Refuses, IsReadAs}
+use Rattle.rds_keep.specs.Feeding.{FeedValue, StandsFor, RefusesPiece, IsReadAs}
 use Rattle.rds_keep.specs.Snapshots.{IsForeign, IsMagic, IsShort, IsUnread, ReadsWhole, WantsMoreReads}
 use Rattle.rds_keep.proofs.Foreign.{foreign_is_bad, short_is_cut, not_hopeless}
 use Rattle.rds_keep.proofs.Fronts.{begins_own, magic_is_four}
@@ -43,7 +43,7 @@ each_known (Some input) each = each input
 
 -- the first four bytes are refused only where memory runs out
 pub magic_refused : {U : Type 0} (finish : U → Reader Snapshot) (feed : FeedValue U Snapshot) (piece front : List ℕ) (e : Fault) → piece ≡ front → IsMagic front → StandsFor finish snapshot_in_at feed []
-    → Refuses finish feed piece e → e ≡ Memory
+    → RefusesPiece finish feed piece e → e ≡ Memory
 magic_refused finish feed piece front e is own stands refuses = elim refuses [
   | inl memory ↦ memory
   | inr never ↦ absurd (not_hopeless own.0 e (rw (is ∙ own.1) at (never snapshot_in_at [] stands)))

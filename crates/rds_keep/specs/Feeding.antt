@@ -39,14 +39,14 @@ abbrev pub ending : {U V : Type 0} → (U → Reader V) → FeedValue U V → Li
 ending finish feed more = all_within feed.left (read_behind finish feed.progress feed.rest) more
 
 -- each is a byte
-abbrev pub AreBytes : List ℕ → Type 0
-AreBytes bytes = (i : ℕ) → slice_index bytes i < 256
+abbrev pub EachIsByte : List ℕ → Type 0
+EachIsByte bytes = (i : ℕ) → slice_index bytes i < 256
 
 -- A feed without a fault stands for the bytes that came: however they go on, it ends as decoding them does.
 pub record StandsFor {U V : Type 0} (finish : U → Reader V) (reader : Reader V) (feed : FeedValue U V)
     (came : List ℕ) : Type 0 where
   pub going : IsOk feed.progress
-  pub bytes : AreBytes came
+  pub bytes : EachIsByte came
   pub room : length came + feed.left ≡ LIMIT
   pub same : (more : List ℕ) → decoding reader (came ++ more) ≡ ending finish feed more
 
@@ -56,13 +56,13 @@ pub record IsHopeless {V : Type 0} (reader : Reader V) (bytes : List ℕ) (e : F
   pub ever : (more : List ℕ) → length (bytes ++ more) ≤ LIMIT → decoding reader (bytes ++ more) ≡ Err e
 
 -- it stands for what it stood for, with a piece
-abbrev pub Adds : {U V : Type 0} → (U → Reader V) → FeedValue U V → FeedValue U V → List ℕ → Type 0
-Adds {U} {V} finish old new piece =
+abbrev pub AddsPiece : {U V : Type 0} → (U → Reader V) → FeedValue U V → FeedValue U V → List ℕ → Type 0
+AddsPiece {U} {V} finish old new piece =
     (reader : Reader V) (came : List ℕ) → StandsFor finish reader old came → StandsFor finish reader new (came ++ piece)
 
 -- memory ran out; or what it stood for is refused so with the piece, however that goes on
-abbrev pub Refuses : {U V : Type 0} → (U → Reader V) → FeedValue U V → List ℕ → Fault → Type 0
-Refuses {U} {V} finish old piece e =
+abbrev pub RefusesPiece : {U V : Type 0} → (U → Reader V) → FeedValue U V → List ℕ → Fault → Type 0
+RefusesPiece {U} {V} finish old piece e =
     (e ≡ Memory) ⊎ ((reader : Reader V) (came : List ℕ) → StandsFor finish reader old came
     → IsHopeless reader (came ++ piece) e)
 
@@ -78,7 +78,7 @@ Ends finish old held bytes e =
 
 -- what is read of all the bytes, within the limit, is what decoding texts of the kind gives
 pub record DecodesTexts {V : Type 0} (kind : Kind V) (reader : Reader V) : Type 0 where
-  pub decodes : (bytes : List ℕ) (result : Result V Fault) → AreBytes bytes → length bytes ≤ LIMIT
+  pub decodes : (bytes : List ℕ) (result : Result V Fault) → EachIsByte bytes → length bytes ≤ LIMIT
       → Reads (λ v. v) result (all_of reader bytes) → Decodes kind bytes result
 
 -- these bytes are refused so, however they go on within the limit
@@ -89,7 +89,7 @@ IsRefused reader bytes e = (more : List ℕ) → length (bytes ++ more) ≤ LIMI
 pub record FailsFor {U V : Type 0} (reader : Reader V) (feed : FeedValue U V) (came : List ℕ) : Type 0 where
   pub fault : Fault
   pub kept : feed.progress ≡ Err fault
-  pub bytes : AreBytes came
+  pub bytes : EachIsByte came
   pub refused : IsRefused reader came fault
 
 -- it stands for the bytes that came, or fails for them
@@ -121,8 +121,3 @@ IsUnread result = (result ≡ Err Memory) ⊎ (result ≡ Err Device)
 -- what decoding all of the bytes gives, unless not all was read
 abbrev pub IsReadAs : {V : Type 0} → Kind V → Reader V → List ℕ → Result V Fault → Type 0
 IsReadAs kind reader bytes result = IsDecoded kind reader bytes result ⊎ IsUnread result
-
--- a value of the kind whose text is within the limit
-pub record HasText {V : Type 0} (kind : Kind V) (v : V) : Type 0 where
-  pub is_value : kind.is_value v
-  pub within : length (kind.text v) ≤ LIMIT

@@ -7,7 +7,7 @@ use Rattle.rds_names.specs.declared.fault.Fault.{Fault}
 use Rattle.rds_names.specs.declared.fault.Fault.TheVariants.{Memory, Cut, Bad, TooLong, Device}
 use Rattle.rds_bytes.specs.Reading.{Reader}
 use Rattle.rds_codec.specs.declared.limits.TheConstants.{LIMIT}
-use Rattle.rds_keep.specs.Feeding.{AreBytes}
+use Rattle.rds_keep.specs.Feeding.{EachIsByte}
 
 -- Known bytes lose a beginning. With those of a front, so many bytes in all, a value is whole, and some are behind it. A
 -- hasher holds those up to the last ones, with which it isn't whole, unless there are none.
@@ -17,7 +17,7 @@ pub record Leads {V : Type 0} (read : Reader V) (front : List ℕ) (before after
   pub consumed : Consumes before after given
   pub whole : (more : List ℕ) → read (front ++ (given ++ more)) ≡ Ok (v, behind ++ more)
   pub size : count ≡ length front + length given
-  pub bytes : AreBytes (front ++ given)
+  pub bytes : EachIsByte (front ++ given)
   pub hashed : List ℕ
   pub holds : Holds256 hasher hashed
   pub parts : front ++ given ≡ hashed ++ last

@@ -12,8 +12,8 @@ abbrev pub AppendsPart : Option (List ℕ) → Option (List ℕ) → List ℕ �
 AppendsPart old new bytes = (n : ℕ) × (n < length bytes) × Appends old new (take n bytes)
 
 -- known bytes are still there, with more behind them or none
-abbrev pub Grows : Option (List ℕ) → Option (List ℕ) → Type 0
-Grows old new = (bytes : List ℕ) × Appends old new bytes
+abbrev pub BytesGrow : Option (List ℕ) → Option (List ℕ) → Type 0
+BytesGrow old new = (bytes : List ℕ) × Appends old new bytes
 
 -- pieces as one text
 abbrev pub pieces_text : List (Bor (List ℕ)) → List ℕ

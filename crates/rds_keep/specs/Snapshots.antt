@@ -31,7 +31,7 @@ IsShort reads input = (length input < 4) × (length input ≤ most_read reads)
 
 -- A foreign input is Bad, however long it is. Of one that isn't, and of each within the limit, it is what decoding
 -- the whole input answers.
-pub record IsAnswerTo (input : List ℕ) (result : Result ReplicaValue Fault) : Type 0 where
+pub record IsDecodedInput (input : List ℕ) (result : Result ReplicaValue Fault) : Type 0 where
   pub foreign : IsForeign input → result ≡ Err Bad
   pub own : (IsForeign input → ⊥) → DecodesSnapshot input result
   pub within : length input ≤ LIMIT → DecodesSnapshot input result
@@ -42,7 +42,7 @@ IsUnread result = (result ≡ Err Memory) ⊎ (result ≡ Err Device)
 
 -- the answer to the input, or why it wasn't read
 abbrev pub ReadsWhole : List ℕ → Result ReplicaValue Fault → Type 0
-ReadsWhole input result = IsAnswerTo input result ⊎ IsUnread result
+ReadsWhole input result = IsDecodedInput input result ⊎ IsUnread result
 
 -- so many reads give neither all of an input that isn't foreign, nor more of it than a text may have
 pub record WantsMoreReads (reads : ℕ) (input : List ℕ) : Type 0 where

@@ -13,7 +13,7 @@ use Rattle.rds_journal.specs.Records.{IsTorn}
 use Rattle.rds_keep.specs.Sums.{CutsSum, HasNoSum, summed_text}
 
 -- a snapshot of so many bytes in a format, within the limit, and their checksum
-pub record IsFirst (format : Format) (v : ReplicaValue) (count : ℕ) (sum : List ℕ) : Type 0 where
+pub record IsSummedSnapshot (format : Format) (v : ReplicaValue) (count : ℕ) (sum : List ℕ) : Type 0 where
   pub value : IsSnapshot v
   pub size : count ≡ length (snapshot_text_in format v)
   pub within : length (snapshot_text_in format v) ≤ LIMIT

@@ -1,7 +1,7 @@
 //! A change of a kept replica that is put behind the others.
 ghost use Rattle.std.specs.Prelude.{◌≡◌, ◌≢◌, ◌⊎◌, List, ℕ, length, Err, IfOk, IfErr, IfSome, OnOk};
 ghost use Rattle.rds_names.specs.declared.fault.Fault.TheVariants.{Memory, Bad, TooLong, Device, Unsure};
-ghost use Rattle.rds_journal.specs.Appending.{IsUnwritten, KeepsFront, LeavesEnd};
+ghost use Rattle.rds_journal.specs.Appending.{IsUnappended, KeepsFront, LeavesEnd};
 ghost use Rattle.rds_journal.specs.Device.{HasRisen, LeavesOnly, Only};
 ghost use Rattle.rds_journal.specs.Records.{IsPayload, record_text};
 ghost use Rattle.rds_keep.specs.Changed.{IsRecordOf, IsSeen, Lasts, with_record};
@@ -125,7 +125,7 @@ impl<S: DotSet> Changed<S> {
         ensures unsure { result ≡ Err Unsure → IfSome (D.seen device.old)
             (λ _. IsSeen (D.seen device.new) self.after (with_record layout.now (length self.bytes))) }
         ensures unwritten { result ≡ Err Device → IfSome (D.seen device.old)
-            (λ file. IsUnwritten file layout.now.whole self.bytes (D.seen device.new)) }
+            (λ file. IsUnappended file layout.now.whole self.bytes (D.seen device.new)) }
         ensures any_moment { LeavesOnly D.moment D.left_since device.old device.new (λ c. (d : List ℕ)
             × D.may_leave device.old d × KeepsFront layout.now.whole (length self.bytes) d c) }
         ensures from_rest { IfSome (D.seen device.old) (λ file. Only file (D.may_leave device.old) → LeavesOnly D.moment

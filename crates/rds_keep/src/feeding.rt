@@ -6,7 +6,8 @@ ghost use Rattle.rds_names.specs.declared.fault.Fault.TheVariants.{Memory, Devic
 ghost use Rattle.rds_codec.specs.Decoding.{IsOtherFault};
 ghost use Rattle.rds_codec.specs.declared.formats.Format.{Format};
 ghost use Rattle.rds_keep.specs.Counted.{HasFailed, most_read};
-ghost use Rattle.rds_keep.specs.Feeding.{Adds, Feeds, HasText, IsReadAs, IsUnread, Refuses, StandsFor, Takes};
+ghost use Rattle.rds_codec.specs.Laws.{HasText};
+ghost use Rattle.rds_keep.specs.Feeding.{AddsPiece, Feeds, IsReadAs, IsUnread, RefusesPiece, StandsFor, Takes};
 ghost use Rattle.rds_keep.specs.Parts.{ConsumesAtMost};
 
 use crate::counted::Counted;
@@ -76,8 +77,8 @@ impl<R: Read> Counted<R> {
 
 /// The feed, with the next bytes.
 pub(crate) fn fed_with<U: Unfinished>(feed: Feed<U>, piece: &[u8]) -> Result<Feed<U>, Fault>
-    ensures adds { IfOk result (λ new. Adds U.finish feed new piece.now) }
-    ensures refuses { IfErr result (Refuses U.finish feed piece.now) }
+    ensures adds { IfOk result (λ new. AddsPiece U.finish feed new piece.now) }
+    ensures refuses { IfErr result (RefusesPiece U.finish feed piece.now) }
 {
     let mut feed = feed;
     feed.feed(piece)?;

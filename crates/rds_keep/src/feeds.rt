@@ -7,7 +7,7 @@ ghost use Rattle.rds_names.specs.declared.fault.Fault.TheVariants.{Memory, Extra
 ghost use Rattle.rds_bytes.specs.Reading.{Reads, Reader};
 ghost use Rattle.rds_codec.specs.Decoding.{Decodes, all_of};
 ghost use Rattle.rds_codec.specs.declared.formats.Format.{Format};
-ghost use Rattle.rds_keep.specs.Feeding.{Adds, Ends, GoesOn, Refuses, StandsFor, decoding, read_on};
+ghost use Rattle.rds_keep.specs.Feeding.{AddsPiece, Ends, GoesOn, RefusesPiece, StandsFor, decoding, read_on};
 
 use crate::fed::Fed;
 use rds_codec::{Format, LIMIT};
@@ -152,8 +152,8 @@ impl<U: Unfinished> Feed<U> {
     /// decoding refuses the bytes up to these so, and no bytes that may follow make a text of them, or memory runs out.
     /// A fault is kept for good: each later call answers the same.
     pub fn feed(&mut self, piece: &[u8]) -> Result<(), Fault>
-        ensures adds { OnOk result (Adds U.finish self.old self.new piece.now) }
-        ensures refuses { IfErr result (Refuses U.finish self.old piece.now) }
+        ensures adds { OnOk result (AddsPiece U.finish self.old self.new piece.now) }
+        ensures refuses { IfErr result (RefusesPiece U.finish self.old piece.now) }
         ensures kept { MatchResult result (λ _. IsOk self.new.progress) (λ e. self.new.progress ≡ Err e) }
         ensures again { IfErr self.old.progress (λ e. result ≡ Err e) }
     {

@@ -6,7 +6,7 @@ ghost use Rattle.rds_codec.specs.Decoding.{IsOtherFault};
 ghost use Rattle.rds_codec.specs.declared.limits.TheConstants.{LIMIT};
 ghost use Rattle.rds_feeds.specs.Pieces.{ReadsOn};
 ghost use Rattle.rds_keep.specs.Counted.{HasFailed, most_read};
-ghost use Rattle.rds_keep.specs.Feeding.{AreBytes};
+ghost use Rattle.rds_keep.specs.Feeding.{EachIsByte};
 ghost use Rattle.rds_keep.specs.Leading.{Leads, RefusesFront, RefusesStep};
 
 use crate::counted::Counted;
@@ -36,7 +36,7 @@ pub struct Leading<W> {
 
 /// Each of a slice's bytes is below 256. The function does nothing: its contract is this law.
 pub fn hold_bytes(bytes: &[u8])
-    ensures { AreBytes bytes.now }
+    ensures { EachIsByte bytes.now }
 {}
 
 /// Reads on as far as the bytes go. Whatever else they are refused for than want of memory, they are `Bad`.

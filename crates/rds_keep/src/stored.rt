@@ -15,7 +15,7 @@ ghost use Rattle.rds_keep.specs.Counted.{HasFailed, most_read};
 ghost use Rattle.rds_keep.specs.Kept.{AreWhole, IsApart, IsFile, IsStored, RefusesBytes};
 ghost use Rattle.rds_keep.specs.Parts.{ConsumesAtMost};
 ghost use Rattle.rds_keep.specs.Snapshots.{IsForeign};
-ghost use Rattle.rds_keep.specs.Stored.{IsAllOf, IsFirst, IsFront, LosesFirst, LosesFront, RefusesEnd, first_and, front_and};
+ghost use Rattle.rds_keep.specs.Stored.{IsAllOf, IsSummedSnapshot, IsFront, LosesFirst, LosesFront, RefusesEnd, first_and, front_and};
 ghost use Rattle.rds_keep.specs.Sums.{CutsSum};
 ghost use Rattle.rds_keep.specs.declared.sums.TheConstants.{SUM_LENGTH};
 
@@ -83,7 +83,7 @@ fn first_of<S: DotSet>(
     requires sum { size ≤ LIMIT → sum ≡ sha256 (snapshot_text_in format replica) }
     requires value { IsSnapshot replica }
     ensures same { IfOk result (λ first. (first.format ≡ format) × (first.replica ≡ replica)) }
-    ensures first { IfOk result (λ first. IsFirst format replica first.length first.sum) }
+    ensures first { IfOk result (λ first. IsSummedSnapshot format replica first.length first.sum) }
     ensures fault { IfErr result (λ e. (e ≡ Memory) ⊎ ((e ≡ TooLong) × (LIMIT < size))) }
 {
     if LIMIT < size {
@@ -117,7 +117,7 @@ fn read_first<S: DotSet, R: Read>(
 ) -> Result<(First<S>, Vec<u8>), Fault>
     ensures loses { IfOk result (λ x. LosesFirst (R.remaining reader.old.inner) (R.remaining reader.new.inner)
         x.0.format x.0.replica x.1.items) }
-    ensures first { IfOk result (λ x. IsFirst x.0.format x.0.replica x.0.length x.0.sum) }
+    ensures first { IfOk result (λ x. IsSummedSnapshot x.0.format x.0.replica x.0.length x.0.sum) }
     ensures end { IfOk result (λ x. length x.1.items ≤ MOST + HEAD + SUM_LENGTH
         → IsAtEnd (R.remaining reader.new.inner)) }
     ensures bound { OnOk result (ConsumesAtMost (R.remaining reader.old.inner) (R.remaining reader.new.inner)
@@ -153,7 +153,7 @@ fn read_first<S: DotSet, R: Read>(
 impl<S: DotSet> First<S> {
     // Whether what is behind it is the rest of a checksum's record that begins inside of it.
     fn cuts_sum(&self, alloc: Global, behind: &[u8]) -> Result<bool, Fault>
-        requires first { IsFirst self.now.format self.now.replica self.now.length self.now.sum }
+        requires first { IsSummedSnapshot self.now.format self.now.replica self.now.length self.now.sum }
         ensures found { IfOk result (λ cuts. IsTrue cuts
             → CutsSum (snapshot_text_in self.now.format self.now.replica) behind.now) }
         ensures none { IfOk result (λ cuts. IsFalse cuts
@@ -169,7 +169,7 @@ impl<S: DotSet> First<S> {
 
     // With the record of the checksum behind it, or without.
     fn into_front(self, is_summed: bool) -> Front<S>
-        requires first { IsFirst self.format self.replica self.length self.sum }
+        requires first { IsSummedSnapshot self.format self.replica self.length self.sum }
         ensures format { result.format ≡ self.format }
         ensures replica { result.replica ≡ self.replica }
         ensures is_summed { result.is_summed ≡ is_summed }
@@ -206,7 +206,7 @@ fn take_sum<S: DotSet>(
     first: First<S>,
     behind: &[u8],
 ) -> Result<(Front<S>, &[u8]), Fault>
-    requires first { IsFirst first.format first.replica first.length first.sum }
+    requires first { IsSummedSnapshot first.format first.replica first.length first.sum }
     ensures parts { IfOk result (λ x. first_and first.format first.replica behind.now
         ≡ front_and x.0.format x.0.is_summed x.0.replica x.1.now) }
     ensures front { IfOk result (λ x. IsFront x.0.format x.0.is_summed x.0.replica x.0.length) }
@@ -383,7 +383,7 @@ pub fn read_stored<S: DotSet, R: Read>(
 // The snapshot that bytes begin with, and those behind it.
 fn decode_first<S: DotSet>(alloc: Global, bytes: &[u8]) -> Result<(First<S>, &[u8]), Fault>
     ensures parts { IfOk result (λ x. bytes.now ≡ first_and x.0.format x.0.replica x.1.now) }
-    ensures first { IfOk result (λ x. IsFirst x.0.format x.0.replica x.0.length x.0.sum) }
+    ensures first { IfOk result (λ x. IsSummedSnapshot x.0.format x.0.replica x.0.length x.0.sum) }
     ensures refused { IfErr result (RefusesBytes bytes.now) }
     ensures fault { IfErr result IsOtherFault }
 {

@@ -13,7 +13,7 @@ use Rattle.rds_dots.specs.declared.dot.Dot.{Dot}
 use Rattle.rds_dots.specs.Dots.{dot_cmp}
 use Rattle.rds_dots.specs.Ascending.{is_above, ascends}
 use Rattle.rds_dots.specs.Order.{dots_total, dots_exact}
-use Rattle.rds_dots.specs.Sets.{same_dot}
+use Rattle.rds_dots.specs.Sets.{tied_dots_are_one}
 use Rattle.rds_life.specs.Added.{IsAdded, loss, gain, gone_rows, is_gone}
 use Rattle.rds_life.specs.Joined.{rows_of_join}
 use Rattle.rds_life.specs.Life.{keys}
@@ -59,13 +59,13 @@ module _ (seen : Dot → Bool) (other later old now : Rows) (row : Dot × Entry)
 
       by : ascends (keys (row ∷ later)) ≡ true → (d : Dot) (b : Bool) → eq_by_cmp dot_cmp d row.0 ≡ b → gain (seen d) (at d now) (cond b (Some row.1) (at d later)) ≡ gain (seen d) (at d old) (at d other) → gain (seen d) (cond b (Some row.1) (at d now)) (at d later) ≡ gain (seen d) (at d old) (at d other)
       by rise d true is h =
-          let s : seen d ≡ false = ap seen (same_dot d row.0 is) ∙ unseen in
-          let none : at d later ≡ None = ap (λ q. at q later) (same_dot d row.0 is) ∙ find_above row.0 later (and_left _ (ascends (keys later)) rise) in
+          let s : seen d ≡ false = ap seen (tied_dots_are_one d row.0 is) ∙ unseen in
+          let none : at d later ≡ None = ap (λ q. at q later) (tied_dots_are_one d row.0 is) ∙ find_above row.0 later (and_left _ (ascends (keys later)) rise) in
           ap (λ x. gain x (Some row.1) (at d later)) s ∙ ap (gain false (Some row.1)) none ∙ sym (ap (λ x. gain x (at d now) (Some row.1)) s) ∙ h
       by rise d false is h = h
 
       same_seen : (d : Dot) → seen d ≡ true → (b : Bool) → eq_by_cmp dot_cmp d row.0 ≡ b → cond b (Some row.1) (at d now) ≡ at d now
-      same_seen d has true is = absurd (false≢true (sym unseen ∙ ap seen (sym (same_dot d row.0 is)) ∙ has))
+      same_seen d has true is = absurd (false≢true (sym unseen ∙ ap seen (sym (tied_dots_are_one d row.0 is)) ∙ has))
       same_seen d has false is = refl
 
       no_some : (e : Entry) → Some e ≡ None → ⊥
@@ -90,7 +90,7 @@ module _ (seen : Dot → Bool) (other later old now : Rows) (row : Dot × Entry)
 
       by : (d : Dot) (b : Bool) → eq_by_cmp dot_cmp d row.0 ≡ b → loss (seen d) (is_some (cond b (Some row.1) (at d later))) (at d now) ≡ loss (seen d) (is_some (at d other)) (at d old) → loss (seen d) (is_some (at d later)) (cond b None (at d now)) ≡ loss (seen d) (is_some (at d other)) (at d old)
       by d true is h =
-          let s : seen d ≡ false = ap seen (same_dot d row.0 is) ∙ unseen in
+          let s : seen d ≡ false = ap seen (tied_dots_are_one d row.0 is) ∙ unseen in
           ap (λ x. loss x (is_some (at d later)) None) s ∙ twice (is_some (at d later)) ∙ sym (ap (λ x. loss x true (at d now)) s) ∙ h
       by d false is h = h
 

@@ -2,10 +2,10 @@
 use Rattle.std.proofs.Common.{◌≡◌, sym, subst}
 use Rattle.std.specs.FinMap as map
 use Rattle.rds_dots.specs.Order.{dots_total, dots_exact}
-use Rattle.rds_life.specs.Life.{Lived, IsJoin, IsNoLater, IsLeastAbove, AreCompatible}
+use Rattle.rds_life.specs.Life.{Lived, IsJoin, IsNoLater, IsLeastAbove, LivesAreCompatible}
 use Rattle.rds_life.proofs.LifeOrder.{life_antisymmetric, life_left, life_right, life_least}
 
-pub least_above : (a b c : Lived) → AreCompatible a b → IsJoin a b c → IsLeastAbove a b c
+pub least_above : (a b c : Lived) → LivesAreCompatible a b → IsJoin a b c → IsLeastAbove a b c
 least_above a b c agree join = record {
   left = λ d. subst (IsNoLater (map.get a d)) (sym (join.each_dot d)) (life_left (map.get a d) (map.get b d));
   right = λ d. subst (IsNoLater (map.get b d)) (sym (join.each_dot d)) (life_right (map.get a d) (map.get b d) (agree.each_dot d));

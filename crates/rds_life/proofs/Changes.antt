@@ -8,9 +8,9 @@ use Rattle.rds_dots.specs.declared.dot.Dot.{Dot}
 use Rattle.rds_dots.specs.Dots.{dot_cmp, Dots}
 use Rattle.rds_dots.specs.Ascending.{ascends}
 use Rattle.rds_dots.specs.Order.{dots_total, dots_exact}
-use Rattle.rds_dots.specs.Sets.{same_dot}
+use Rattle.rds_dots.specs.Sets.{tied_dots_are_one}
 use Rattle.rds_life.specs.Life.{Live, Dead, keys, life_of, lives_of, AreRows}
-use Rattle.rds_life.specs.Removed.{without}
+use Rattle.rds_life.specs.Removed.{rows_without}
 use Rattle.rds_life.proofs.LivedLemmas.{get-lives_of, find_unseen, are_rows_of}
 use Rattle.std.specs.FinMap.Entries.{find-put}
 use Rattle.rds_life.proofs.Puts.{rise-put, find-without, rise-without}
@@ -45,28 +45,28 @@ module _ (s : Dots) (rows : List (Dot × Entry)) (d : Dot) (are : AreRows s rows
   rows-put e = rows-change s rows (map.put dot_cmp d e rows) d (Some e) are (rise-put d e rows are.rise) (λ q. find-put dot_cmp dots_total q d e rows)
 
   -- a dot without its row is dead
-  lives_of-without-new : lives_of (set.insert s d) (without d rows) ≡ map.insert (lives_of s rows) d Dead
-  lives_of-without-new = lives_of-change s rows (without d rows) d None (find-without d rows)
+  lives_of-without-new : lives_of (set.insert s d) (rows_without d rows) ≡ map.insert (lives_of s rows) d Dead
+  lives_of-without-new = lives_of-change s rows (rows_without d rows) d None (find-without d rows)
 
   in_already : (b : Bool) (q : Dot) → set.contains s d ≡ true → eq_by_cmp dot_cmp q d ≡ b → (b || set.contains s q) ≡ set.contains s q
-  in_already true q has is = sym (ap (set.contains s) (same_dot q d is) ∙ has)
+  in_already true q has is = sym (ap (set.contains s) (tied_dots_are_one q d is) ∙ has)
   in_already false q has is = refl
 
   insert_again : set.contains s d ≡ true → set.insert s d ≡ s
   insert_again has = set.same_set dots_total dots_exact _ _ (λ q. set.contains-insert dots_total s d q ∙ in_already (eq_by_cmp dot_cmp q d) q has refl)
 
-  pub lives_of-without : set.contains s d ≡ true → lives_of s (without d rows) ≡ map.insert (lives_of s rows) d Dead
-  lives_of-without has = ap (λ t. lives_of t (without d rows)) (sym (insert_again has)) ∙ lives_of-without-new
+  pub lives_of-without : set.contains s d ≡ true → lives_of s (rows_without d rows) ≡ map.insert (lives_of s rows) d Dead
+  lives_of-without has = ap (λ t. lives_of t (rows_without d rows)) (sym (insert_again has)) ∙ lives_of-without-new
 
-  pub rows-without : AreRows s (without d rows)
-  rows-without = are_rows_of s (without d rows) (rise-without d rows are.rise) (λ q fails. find-without d rows q ∙ gone q (eq_by_cmp dot_cmp q d) (find_unseen s rows are q fails))
+  pub rows-without : AreRows s (rows_without d rows)
+  rows-without = are_rows_of s (rows_without d rows) (rise-without d rows are.rise) (λ q fails. find-without d rows q ∙ gone q (eq_by_cmp dot_cmp q d) (find_unseen s rows are q fails))
     where
       gone : (q : Dot) (b : Bool) → map.find dot_cmp q rows ≡ None → cond b None (map.find dot_cmp q rows) ≡ None
       gone q true none = refl
       gone q false none = none
 
   unseen_stays : set.contains s d ≡ false → (q : Dot) (b : Bool) → eq_by_cmp dot_cmp q d ≡ b → map.find dot_cmp q rows ≡ cond b None (map.find dot_cmp q rows)
-  unseen_stays fails q true is = ap (λ x. map.find dot_cmp x rows) (same_dot q d is) ∙ find_unseen s rows are d fails
+  unseen_stays fails q true is = ap (λ x. map.find dot_cmp x rows) (tied_dots_are_one q d is) ∙ find_unseen s rows are d fails
   unseen_stays fails q false is = refl
 
   -- an unseen dot that is put into the set is dead

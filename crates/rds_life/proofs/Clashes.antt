@@ -10,9 +10,9 @@ use Rattle.rds_dots.specs.declared.dot.Dot.{Dot}
 use Rattle.rds_dots.specs.Dots.{dot_cmp}
 use Rattle.rds_dots.specs.Ascending.{is_above, ascends}
 use Rattle.rds_dots.specs.Order.{dots_total, dots_exact, after_before}
-use Rattle.rds_dots.specs.Merges.{above, above_trans}
+use Rattle.rds_dots.specs.Merges.{less_is_above, above_trans}
 use Rattle.rds_names.specs.Conditions.{and_true, and_left, and_right, less_of}
-use Rattle.rds_dots.specs.Sets.{same_dot}
+use Rattle.rds_dots.specs.Sets.{tied_dots_are_one}
 use Rattle.rds_life.specs.Life.{keys}
 use Rattle.rds_life.specs.Clash.{SameIfBoth, IsFirstClash}
 use Rattle.rds_life.proofs.RowLemmas.{find_above}
@@ -42,13 +42,13 @@ module _ {X : Type 0} where
   -- what is found behind the first row is found
   behind : (x : Dot × X) (xs : List (Dot × X)) → ascends (keys (x ∷ xs)) ≡ true → (d : Dot) (e : X) → find dot_cmp d xs ≡ Some e → find dot_cmp d (x ∷ xs) ≡ Some e
   behind x xs rise d e h = elim (eq_by_cmp dot_cmp d x.0) as (λ t. eq_by_cmp dot_cmp d x.0 ≡ t → cond t (Some x.1) (find dot_cmp d xs) ≡ Some e) [
-    | true ↦ λ is. absurd (not_none e (sym (ap (λ q. find dot_cmp q xs) (same_dot d x.0 is) ∙ find_above x.0 xs (and_left _ (ascends (keys xs)) rise)) ∙ h))
+    | true ↦ λ is. absurd (not_none e (sym (ap (λ q. find dot_cmp q xs) (tied_dots_are_one d x.0 is) ∙ find_above x.0 xs (and_left _ (ascends (keys xs)) rise)) ∙ h))
     | false ↦ λ _. h
   ] refl
 
   -- the right's rows all come after x
   after : (x y : Dot × X) (ys : List (Dot × X)) → dot_cmp x.0 y.0 ≡ Less → ascends (keys (y ∷ ys)) ≡ true → find dot_cmp x.0 (y ∷ ys) ≡ None
-  after x y ys less rise = find_above x.0 (y ∷ ys) (and_true _ _ (above x.0 y.0 less) (above_trans x.0 y.0 less (keys ys) (and_left _ (ascends (keys ys)) rise)))
+  after x y ys less rise = find_above x.0 (y ∷ ys) (and_true _ _ (less_is_above x.0 y.0 less) (above_trans x.0 y.0 less (keys ys) (and_left _ (ascends (keys ys)) rise)))
 
   pub past_left : (a b : List (Dot × X)) (x y : Dot × X) (xs ys : List (Dot × X)) → dot_cmp x.0 y.0 ≡ Less → IsPast a b (x ∷ xs) (y ∷ ys) → IsPast a b xs (y ∷ ys)
   past_left a b x y xs ys less past = record {
@@ -59,7 +59,7 @@ module _ {X : Type 0} where
     each_dot = λ d. elim (past.each_dot d) [
       | inl same ↦ inl same
       | inr both ↦ elim (eq_by_cmp dot_cmp d x.0) as (λ t. eq_by_cmp dot_cmp d x.0 ≡ t → cond t (Some x.1) (find dot_cmp d xs) ≡ find dot_cmp d a → SameIfBoth (find dot_cmp d a) (find dot_cmp d b) ⊎ ((find dot_cmp d xs ≡ find dot_cmp d a) × (find dot_cmp d (y ∷ ys) ≡ find dot_cmp d b))) [
-        | true ↦ λ is _. inl (by_right _ _ (sym both.1 ∙ ap (λ q. find dot_cmp q (y ∷ ys)) (same_dot d x.0 is) ∙ after x y ys less past.rise_ys))
+        | true ↦ λ is _. inl (by_right _ _ (sym both.1 ∙ ap (λ q. find dot_cmp q (y ∷ ys)) (tied_dots_are_one d x.0 is) ∙ after x y ys less past.rise_ys))
         | false ↦ λ _ e. inr (e, both.1)
       ] refl both.0
     ];
@@ -74,7 +74,7 @@ module _ {X : Type 0} where
     each_dot = λ d. elim (past.each_dot d) [
       | inl same ↦ inl same
       | inr both ↦ elim (eq_by_cmp dot_cmp d y.0) as (λ t. eq_by_cmp dot_cmp d y.0 ≡ t → cond t (Some y.1) (find dot_cmp d ys) ≡ find dot_cmp d b → SameIfBoth (find dot_cmp d a) (find dot_cmp d b) ⊎ ((find dot_cmp d (x ∷ xs) ≡ find dot_cmp d a) × (find dot_cmp d ys ≡ find dot_cmp d b))) [
-        | true ↦ λ is _. inl (by_left _ _ (sym both.0 ∙ ap (λ q. find dot_cmp q (x ∷ xs)) (same_dot d y.0 is) ∙ after y x xs (after_before x.0 y.0 more) past.rise_xs))
+        | true ↦ λ is _. inl (by_left _ _ (sym both.0 ∙ ap (λ q. find dot_cmp q (x ∷ xs)) (tied_dots_are_one d y.0 is) ∙ after y x xs (after_before x.0 y.0 more) past.rise_xs))
         | false ↦ λ _ e. inr (both.0, e)
       ] refl both.1
     ];
@@ -99,7 +99,7 @@ module _ {X : Type 0} where
 
   -- a dot with different entries is the first
   before_none : (q : Dot) (x : Dot × X) (xs : List (Dot × X)) → dot_cmp q x.0 ≡ Less → list_all (is_above x.0) (keys xs) ≡ true → find dot_cmp q (x ∷ xs) ≡ None
-  before_none q x xs less all = find_above q (x ∷ xs) (and_true _ _ (above q x.0 less) (above_trans q x.0 less (keys xs) all))
+  before_none q x xs less all = find_above q (x ∷ xs) (and_true _ _ (less_is_above q x.0 less) (above_trans q x.0 less (keys xs) all))
 
   clash_first : (a b : List (Dot × X)) (x y : Dot × X) (xs ys : List (Dot × X)) → IsPast a b (x ∷ xs) (y ∷ ys) → (q : Dot) → is_lt (dot_cmp q x.0) ≡ true → SameIfBoth (find dot_cmp q a) (find dot_cmp q b)
   clash_first a b x y xs ys past q lt = elim (past.each_dot q) [

@@ -11,13 +11,13 @@ use Rattle.rds_names.specs.declared.entry.Entry.{Entry}
 use Rattle.rds_dots.specs.declared.dot.Dot.{Dot}
 use Rattle.rds_dots.specs.Dots.{dot_cmp, Dots}
 use Rattle.rds_dots.specs.Order.{dots_total, dots_exact}
-use Rattle.rds_dots.specs.Sets.{same_dot}
+use Rattle.rds_dots.specs.Sets.{tied_dots_are_one}
 use Rattle.rds_life.specs.Joined.{rows_of_join}
 use Rattle.rds_life.specs.Killed.{killed_by, is_the}
 use Rattle.rds_life.specs.KnownDead.{KnowsDead, HasMore, AreKept}
 use Rattle.rds_life.specs.Life.{Life, Live, Dead, Lived, AreRows, keys, lives_of, is_dead, entry_of, join_life}
 use Rattle.rds_life.specs.Life.{live_rows, live_of}
-use Rattle.rds_life.specs.Removed.{without}
+use Rattle.rds_life.specs.Removed.{rows_without}
 use Rattle.rds_life.proofs.Changes.{lives_of-without, rows-without, lives_of-insert, rows-insert, lives_of-put, rows-put}
 use Rattle.rds_life.proofs.LivedLemmas.{are_joined, is_joined, seen_is}
 use Rattle.rds_life.proofs.Views.{find-live_rows}
@@ -91,7 +91,7 @@ lives_more : (v w : Lived) (dot : Dot) (e : Entry) → w ≡ map.insert v dot (L
 lives_more v w dot e is none d =
     ap (λ u. is_dead (map.get u d)) is
     ∙ ap is_dead (map.get-insert dots_total v dot (Live e) d)
-    ∙ lives_if (eq_by_cmp dot_cmp d dot) e (map.get v d) (λ same. ap (map.get v) (same_dot d dot same) ∙ none)
+    ∙ lives_if (eq_by_cmp dot_cmp d dot) e (map.get v d) (λ same. ap (map.get v) (tied_dots_are_one d dot same) ∙ none)
 
 joined_dies : (a b : Option Life) → is_dead (join_life a b) ≡ (is_dead b || is_dead a)
 joined_dies None l = sym (or-false (is_dead l))
@@ -104,11 +104,11 @@ joined_dies (Some Dead) (Some Dead) = refl
 
 module _ (s : Dots) (rows : List (Dot × Entry)) (old : Option Dots) (kept : AreKept s rows old) where
   -- a seen dot dies
-  pub kept-kill : (dot : Dot) → set.contains s dot ≡ true → (new : Option Dots) → HasMore (λ d. eq_by_cmp dot_cmp d dot) old new → AreKept s (without dot rows) new
+  pub kept-kill : (dot : Dot) → set.contains s dot ≡ true → (new : Option Dots) → HasMore (λ d. eq_by_cmp dot_cmp d dot) old new → AreKept s (rows_without dot rows) new
   kept-kill dot seen new more = record {
     rows = rows-without s rows dot kept.rows;
-    dead = known_more (lives_of s rows) (lives_of s (without dot rows)) (λ d. eq_by_cmp dot_cmp d dot)
-        (dies (lives_of s rows) (lives_of s (without dot rows)) dot (lives_of-without s rows dot kept.rows seen)) old new kept.dead more;
+    dead = known_more (lives_of s rows) (lives_of s (rows_without dot rows)) (λ d. eq_by_cmp dot_cmp d dot)
+        (dies (lives_of s rows) (lives_of s (rows_without dot rows)) dot (lives_of-without s rows dot kept.rows seen)) old new kept.dead more;
   }
 
   -- an unseen dot dies
@@ -156,7 +156,7 @@ no_life (Some l) h = cc
 pub unseen_stays : (s : Dots) (rows : List (Dot × Entry)) (v : Lived) → lives_of s rows ≡ v → (dot : Dot) → set.contains s dot ≡ false → (d : Dot) → map.get v d ≡ killed_by (is_the dot) d (map.get v d)
 unseen_stays s rows v is dot unseen d =
     spares (eq_by_cmp dot_cmp dot d) (map.get v d) d dot refl
-    (λ same. ap (map.get v) (sym (same_dot dot d same)) ∙ no_life (map.get v dot) (sym (seen_is s rows v is dot) ∙ unseen))
+    (λ same. ap (map.get v) (sym (tied_dots_are_one dot d same)) ∙ no_life (map.get v dot) (sym (seen_is s rows v is dot) ∙ unseen))
 
 -- a dot that is seen and not dead is live
 lives : (o : Option Life) → (is_some o && not (is_dead o)) ≡ is_some (entry_of o)

@@ -10,9 +10,9 @@ use Rattle.rds_dots.specs.declared.dot.Dot.{Dot}
 use Rattle.rds_dots.specs.Dots.{dot_cmp}
 use Rattle.rds_dots.specs.Ascending.{is_above, ascends}
 use Rattle.rds_dots.specs.Order.{dots_exact, after_before}
-use Rattle.rds_dots.specs.Merges.{above, above_trans}
+use Rattle.rds_dots.specs.Merges.{less_is_above, above_trans}
 use Rattle.rds_names.specs.Conditions.{and_true, and_left, and_right}
-use Rattle.rds_dots.specs.Sets.{same_dot}
+use Rattle.rds_dots.specs.Sets.{tied_dots_are_one}
 use Rattle.rds_life.specs.Life.{keys}
 use Rattle.rds_life.specs.Joined.{row_if, outside, joined_onto, rows_of_join}
 use Rattle.rds_life.proofs.RowLemmas.{find_above, find-row_if, all-row_if, ascends-row_if}
@@ -52,9 +52,9 @@ module _ {X : Type 0} (sl sr : Dot → Bool) (d : Dot) where
       find-row_if d (not (sl y.0)) y (outside sl ys)
       ∙ ap (λ o. cond (not (sl y.0)) (cond (eq_by_cmp dot_cmp d y.0) (Some y.1) o) o) again
       ∙ right_kept (eq_by_cmp dot_cmp d y.0) (sl y.0) (sl d) (sr d) y.1 None (find dot_cmp d ys) (λ is. record {
-        same = ap sl (sym (same_dot d y.0 is));
+        same = ap sl (sym (tied_dots_are_one d y.0 is));
         left = refl;
-        right = ap (λ q. find dot_cmp q ys) (same_dot d y.0 is) ∙ find_above y.0 ys first;
+        right = ap (λ q. find dot_cmp q ys) (tied_dots_are_one d y.0 is) ∙ find_above y.0 ys first;
       })
 
   find-joined_onto : (x : Dot × X) (xs : List (Dot × X)) (rest : List (Dot × X) → List (Dot × X)) → list_all (is_above x.0) (keys xs) ≡ true → ((ys : List (Dot × X)) → ascends (keys ys) ≡ true → find dot_cmp d (rest ys) ≡ pick (sl d) (sr d) (find dot_cmp d xs) (find dot_cmp d ys)) → (ys : List (Dot × X)) → ascends (keys ys) ≡ true → find dot_cmp d (joined_onto sl sr x rest ys) ≡ pick (sl d) (sr d) (find dot_cmp d (x ∷ xs)) (find dot_cmp d ys)
@@ -62,8 +62,8 @@ module _ {X : Type 0} (sl sr : Dot → Bool) (d : Dot) where
       find-row_if d (not (sr x.0)) x (rest [])
       ∙ ap (λ o. cond (not (sr x.0)) (cond (eq_by_cmp dot_cmp d x.0) (Some x.1) o) o) (h [] refl)
       ∙ left_kept (eq_by_cmp dot_cmp d x.0) (sr x.0) (sl d) (sr d) x.1 (find dot_cmp d xs) None (λ is. record {
-        same = ap sr (sym (same_dot d x.0 is));
-        left = ap (λ q. find dot_cmp q xs) (same_dot d x.0 is) ∙ find_above x.0 xs front;
+        same = ap sr (sym (tied_dots_are_one d x.0 is));
+        left = ap (λ q. find dot_cmp q xs) (tied_dots_are_one d x.0 is) ∙ find_above x.0 xs front;
         right = refl;
       })
   find-joined_onto x xs rest front h (y ∷ ys) rise =
@@ -75,9 +75,9 @@ module _ {X : Type 0} (sl sr : Dot → Bool) (d : Dot) where
             find-row_if d (not (sr x.0)) x (rest (y ∷ ys))
             ∙ ap (λ o. cond (not (sr x.0)) (cond (eq_by_cmp dot_cmp d x.0) (Some x.1) o) o) (h (y ∷ ys) rise)
             ∙ left_kept (eq_by_cmp dot_cmp d x.0) (sr x.0) (sl d) (sr d) x.1 (find dot_cmp d xs) (find dot_cmp d (y ∷ ys)) (λ e. record {
-              same = ap sr (sym (same_dot d x.0 e));
-              left = ap (λ q. find dot_cmp q xs) (same_dot d x.0 e) ∙ find_above x.0 xs front;
-              right = ap (λ q. find dot_cmp q (y ∷ ys)) (same_dot d x.0 e) ∙ find_above x.0 (y ∷ ys) (and_true _ _ (above x.0 y.0 is) (above_trans x.0 y.0 is (keys ys) first));
+              same = ap sr (sym (tied_dots_are_one d x.0 e));
+              left = ap (λ q. find dot_cmp q xs) (tied_dots_are_one d x.0 e) ∙ find_above x.0 xs front;
+              right = ap (λ q. find dot_cmp q (y ∷ ys)) (tied_dots_are_one d x.0 e) ∙ find_above x.0 (y ∷ ys) (and_true _ _ (less_is_above x.0 y.0 is) (above_trans x.0 y.0 is (keys ys) first));
             })
         | Equal ↦ λ is.
             ap (λ o. cond (eq_by_cmp dot_cmp d x.0) (Some x.1) o) (h ys later)
@@ -86,9 +86,9 @@ module _ {X : Type 0} (sl sr : Dot → Bool) (d : Dot) where
             find-row_if d (not (sl y.0)) y (joined_onto sl sr x rest ys)
             ∙ ap (λ o. cond (not (sl y.0)) (cond (eq_by_cmp dot_cmp d y.0) (Some y.1) o) o) again
             ∙ right_kept (eq_by_cmp dot_cmp d y.0) (sl y.0) (sl d) (sr d) y.1 (find dot_cmp d (x ∷ xs)) (find dot_cmp d ys) (λ e. record {
-              same = ap sl (sym (same_dot d y.0 e));
-              left = ap (λ q. find dot_cmp q (x ∷ xs)) (same_dot d y.0 e) ∙ find_above y.0 (x ∷ xs) (and_true _ _ (above y.0 x.0 (after_before x.0 y.0 is)) (above_trans y.0 x.0 (after_before x.0 y.0 is) (keys xs) front));
-              right = ap (λ q. find dot_cmp q ys) (same_dot d y.0 e) ∙ find_above y.0 ys first;
+              same = ap sl (sym (tied_dots_are_one d y.0 e));
+              left = ap (λ q. find dot_cmp q (x ∷ xs)) (tied_dots_are_one d y.0 e) ∙ find_above y.0 (x ∷ xs) (and_true _ _ (less_is_above y.0 x.0 (after_before x.0 y.0 is)) (above_trans y.0 x.0 (after_before x.0 y.0 is) (keys xs) front));
+              right = ap (λ q. find dot_cmp q ys) (tied_dots_are_one d y.0 e) ∙ find_above y.0 ys first;
             })
       ] refl
 
@@ -128,9 +128,9 @@ module _ {X : Type 0} (sl sr : Dot → Bool) where
       let later = and_right (list_all (is_above y.0) (keys ys)) _ rise in
       let again = ascends-joined_onto x xs rest front all asc ys later in
       elim (dot_cmp x.0 y.0) as (λ o. dot_cmp x.0 y.0 ≡ o → ascends (keys (by_order o (row_if (not (sr x.0)) x (rest (y ∷ ys))) (x ∷ rest ys) (row_if (not (sl y.0)) y (joined_onto sl sr x rest ys)))) ≡ true) [
-        | Less ↦ λ is. ascends-row_if (not (sr x.0)) x _ (all (is_above x.0) (y ∷ ys) front (and_true _ _ (above x.0 y.0 is) (above_trans x.0 y.0 is (keys ys) first))) (asc (y ∷ ys) rise)
+        | Less ↦ λ is. ascends-row_if (not (sr x.0)) x _ (all (is_above x.0) (y ∷ ys) front (and_true _ _ (less_is_above x.0 y.0 is) (above_trans x.0 y.0 is (keys ys) first))) (asc (y ∷ ys) rise)
         | Equal ↦ λ is. and_true _ _ (all (is_above x.0) ys front (ap (λ q. list_all (is_above q) (keys ys)) (dots_exact x.0 y.0 is) ∙ first)) (asc ys later)
-        | Greater ↦ λ is. ascends-row_if (not (sl y.0)) y _ (all-joined_onto (is_above y.0) x rest (above y.0 x.0 (after_before x.0 y.0 is)) (λ zs h. all (is_above y.0) zs (above_trans y.0 x.0 (after_before x.0 y.0 is) (keys xs) front) h) ys first) again
+        | Greater ↦ λ is. ascends-row_if (not (sl y.0)) y _ (all-joined_onto (is_above y.0) x rest (less_is_above y.0 x.0 (after_before x.0 y.0 is)) (λ zs h. all (is_above y.0) zs (above_trans y.0 x.0 (after_before x.0 y.0 is) (keys xs) front) h) ys first) again
       ] refl
 
   -- and they rise

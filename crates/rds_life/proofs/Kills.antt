@@ -11,7 +11,7 @@ use Rattle.rds_dots.specs.Dots.{dot_cmp, Dots}
 use Rattle.rds_dots.specs.Ascending.{is_above, ascends}
 use Rattle.rds_dots.specs.Order.{dots_total}
 use Rattle.rds_names.specs.Conditions.{and_true, and_left, and_right}
-use Rattle.rds_dots.specs.Sets.{same_dot}
+use Rattle.rds_dots.specs.Sets.{tied_dots_are_one}
 use Rattle.rds_life.specs.Life.{Life, Live, Dead, Lived, keys, life_of, lives_of, AreRows, entry_of, live_rows}
 use Rattle.rds_life.specs.Killed.{killed_by}
 use Rattle.rds_life.proofs.Puts.{rise-put}
@@ -57,8 +57,8 @@ module _ (test : Dot → Entry → Bool) where
       find-row_if d stays x (left rows)
       ∙ ap (λ o. cond stays (cond (eq_by_cmp dot_cmp d x.0) (Some x.1) o) o) again
       ∙ find_one (eq_by_cmp dot_cmp d x.0) stays x.1 (map.find dot_cmp d rows) d
-      (λ is. ap (λ q. not (test q x.1)) (same_dot d x.0 is))
-      (λ is. ap (λ q. map.find dot_cmp q rows) (same_dot d x.0 is) ∙ none)
+      (λ is. ap (λ q. not (test q x.1)) (tied_dots_are_one d x.0 is))
+      (λ is. ap (λ q. map.find dot_cmp q rows) (tied_dots_are_one d x.0 is) ∙ none)
 
   spared_none : (d : Dot) (o : Option Entry) → o ≡ None → spared d o ≡ None
   spared_none d None e = refl

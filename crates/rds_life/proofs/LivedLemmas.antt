@@ -6,7 +6,7 @@ use Rattle.std.specs.Prelude.{◌↔◌, ◌≢◌, map as each, is_some, Result
 use Rattle.rds_life.specs.declared.rank.Rank.{Rank}
 use Rattle.rds_life.specs.declared.rank.Rank.TheVariants as ranks
 use Rattle.rds_life.specs.Rank.{rank_of}
-use Rattle.rds_life.specs.Fits.{fits, before_next}
+use Rattle.rds_life.specs.Fits.{fits, dot_before_next}
 use Rattle.std.specs.List.{list_all}
 use Rattle.std.specs.Ordering.{eq_by_cmp, is_eq, is_lt, ordering_reverse}
 use Rattle.std.specs.declared.cmp.Ordering.{Ordering}
@@ -210,19 +210,19 @@ pub rank_is : (s : Dots) (rows : List (Dot × Entry)) (v : Lived) → lives_of s
 rank_is s rows v is d b o eb eo = sym (ap (λ l. rank_of (map.get l d)) (sym is) ∙ ap rank_of (get-lives_of s rows d) ∙ rank-cond (set.contains s d) _ ∙ ap (λ x. ranked x (map.find dot_cmp d rows)) eb ∙ ap (ranked b) eo)
 
 -- rows that fit are rows
-above_next : (d : Dot) (rows : List (Dot × Entry)) → before_next d rows ≡ true → ascends (keys rows) ≡ true → list_all (is_above d) (keys rows) ≡ true
+above_next : (d : Dot) (rows : List (Dot × Entry)) → dot_before_next d rows ≡ true → ascends (keys rows) ≡ true → list_all (is_above d) (keys rows) ≡ true
 above_next d [] next rise = refl
 above_next d (r ∷ rows) next rise = and_true _ _ next (above_trans d r.0 (less_of (dot_cmp d r.0) next) (keys rows) (and_left _ (ascends (keys rows)) rise))
 
-next_above : (d : Dot) (rows : List (Dot × Entry)) → list_all (is_above d) (keys rows) ≡ true → before_next d rows ≡ true
+next_above : (d : Dot) (rows : List (Dot × Entry)) → list_all (is_above d) (keys rows) ≡ true → dot_before_next d rows ≡ true
 next_above d [] all = refl
 next_above d (r ∷ rows) all = and_left (is_above d r.0) _ all
 
 pub fits_rows : (s : Dots) (rows : List (Dot × Entry)) → fits (set.contains s) rows ≡ true → AreRows s rows
 fits_rows s [] fit = record { rise = refl; seen_all = refl }
 fits_rows s (r ∷ rows) fit =
-    let front = and_left (set.contains s r.0 && before_next r.0 rows) _ fit in
-    let later = fits_rows s rows (and_right (set.contains s r.0 && before_next r.0 rows) _ fit) in
+    let front = and_left (set.contains s r.0 && dot_before_next r.0 rows) _ fit in
+    let later = fits_rows s rows (and_right (set.contains s r.0 && dot_before_next r.0 rows) _ fit) in
     record {
       rise = and_true _ _ (above_next r.0 rows (and_right (set.contains s r.0) _ front) later.rise) later.rise;
       seen_all = and_true _ _ (and_left (set.contains s r.0) _ front) later.seen_all;

@@ -10,7 +10,7 @@ use Rattle.rds_dots.specs.Ascending.{is_above, ascends}
 use Rattle.rds_dots.specs.Order.{dots_total}
 use Rattle.rds_dots.specs.Merges.{above_trans}
 use Rattle.rds_names.specs.Conditions.{and_true, and_left, and_right, less_of}
-use Rattle.rds_dots.specs.Sets.{same_dot}
+use Rattle.rds_dots.specs.Sets.{tied_dots_are_one}
 use Rattle.rds_life.specs.Life.{keys}
 use Rattle.rds_life.specs.Clash.{SameIfBoth, Clashes}
 use Rattle.rds_life.proofs.RowLemmas.{find_above}
@@ -24,13 +24,13 @@ pub record IsLookedUp {X : Type 0} (a b rest : List (Dot × X)) : Type 0 where
 module _ {X : Type 0} (a : List (Dot × X)) (x : Dot × X) (rest : List (Dot × X)) (rise : ascends (keys (x ∷ rest)) ≡ true) where
   same_more : SameIfBoth (find dot_cmp x.0 a) (Some x.1) → (q : Dot) → SameIfBoth (find dot_cmp q a) (find dot_cmp q rest) → SameIfBoth (find dot_cmp q a) (find dot_cmp q (x ∷ rest))
   same_more same q h = elim (eq_by_cmp dot_cmp q x.0) as (λ b. eq_by_cmp dot_cmp q x.0 ≡ b → SameIfBoth (find dot_cmp q a) (cond b (Some x.1) (find dot_cmp q rest))) [
-    | true ↦ λ is. subst (λ p. SameIfBoth (find dot_cmp p a) (Some x.1)) (sym (same_dot q x.0 is)) same
+    | true ↦ λ is. subst (λ p. SameIfBoth (find dot_cmp p a) (Some x.1)) (sym (tied_dots_are_one q x.0 is)) same
     | false ↦ λ _. h
   ] refl
 
   same_less : (q : Dot) → SameIfBoth (find dot_cmp q a) (find dot_cmp q (x ∷ rest)) → SameIfBoth (find dot_cmp q a) (find dot_cmp q rest)
   same_less q h = elim (eq_by_cmp dot_cmp q x.0) as (λ b. eq_by_cmp dot_cmp q x.0 ≡ b → SameIfBoth (find dot_cmp q a) (cond b (Some x.1) (find dot_cmp q rest)) → SameIfBoth (find dot_cmp q a) (find dot_cmp q rest)) [
-    | true ↦ λ is _. by_right (find dot_cmp q a) (find dot_cmp q rest) (ap (λ p. find dot_cmp p rest) (same_dot q x.0 is) ∙ find_above x.0 rest (and_left _ (ascends (keys rest)) rise))
+    | true ↦ λ is _. by_right (find dot_cmp q a) (find dot_cmp q rest) (ap (λ p. find dot_cmp p rest) (tied_dots_are_one q x.0 is) ∙ find_above x.0 rest (and_left _ (ascends (keys rest)) rise))
     | false ↦ λ _ k. k
   ] refl h
 

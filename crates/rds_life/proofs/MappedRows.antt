@@ -14,9 +14,9 @@ use Rattle.rds_names.specs.Conditions.{and_true}
 use Rattle.rds_dots.specs.declared.dot.Dot.{Dot}
 use Rattle.rds_dots.specs.Dots.{dot_cmp}
 use Rattle.rds_dots.specs.Ascending.{ascends, is_above}
-use Rattle.rds_dots.specs.Sets.{same_dot}
+use Rattle.rds_dots.specs.Sets.{tied_dots_are_one}
 use Rattle.rds_life.specs.Life.{keys}
-use Rattle.rds_life.specs.Removed.{without}
+use Rattle.rds_life.specs.Removed.{rows_without}
 use Rattle.rds_life.proofs.Puts.{put_before}
 
 abbrev Rows : Type 0
@@ -52,15 +52,15 @@ unfolding IsStrictlySortedBy
 rises [] h = refl
 rises (r ∷ rows) h = and_true _ _ (all_above r.0 rows h.0) (rises rows h.1)
 
-no_other : (d : Dot) (rows : Rows) → AllByRecursion (λ y. dot_cmp d y ≡ Less) (keys rows) → without d rows ≡ rows
+no_other : (d : Dot) (rows : Rows) → AllByRecursion (λ y. dot_cmp d y ≡ Less) (keys rows) → rows_without d rows ≡ rows
 no_other d [] h = refl
-no_other d (r ∷ rows) h = ap (λ o. cond (not (is_eq o)) (r ∷ without d rows) (without d rows)) h.0 ∙ ap (λ xs. r ∷ xs) (no_other d rows h.1)
+no_other d (r ∷ rows) h = ap (λ o. cond (not (is_eq o)) (r ∷ rows_without d rows) (rows_without d rows)) h.0 ∙ ap (λ xs. r ∷ xs) (no_other d rows h.1)
 
-pub remove-without : (d : Dot) (rows : Rows) → IsStrictlySortedBy dot_cmp (keys rows) → remove_entry (λ x. is_eq (dot_cmp d x)) rows ≡ without d rows
+pub remove-without : (d : Dot) (rows : Rows) → IsStrictlySortedBy dot_cmp (keys rows) → remove_entry (λ x. is_eq (dot_cmp d x)) rows ≡ rows_without d rows
 unfolding IsStrictlySortedBy
 remove-without d [] h = refl
 remove-without d (r ∷ rows) h =
-    elim (eq_by_cmp dot_cmp d r.0) as (λ b. eq_by_cmp dot_cmp d r.0 ≡ b → cond b rows (r ∷ remove_entry (λ x. is_eq (dot_cmp d x)) rows) ≡ cond (not b) (r ∷ without d rows) (without d rows)) [
-      | true ↦ λ is. sym (ap (λ q. without q rows) (same_dot d r.0 is) ∙ no_other r.0 rows h.0)
+    elim (eq_by_cmp dot_cmp d r.0) as (λ b. eq_by_cmp dot_cmp d r.0 ≡ b → cond b rows (r ∷ remove_entry (λ x. is_eq (dot_cmp d x)) rows) ≡ cond (not b) (r ∷ rows_without d rows) (rows_without d rows)) [
+      | true ↦ λ is. sym (ap (λ q. rows_without q rows) (tied_dots_are_one d r.0 is) ∙ no_other r.0 rows h.0)
       | false ↦ λ _. ap (λ xs. r ∷ xs) (remove-without d rows h.1)
     ] refl

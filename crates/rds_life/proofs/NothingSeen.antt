@@ -8,7 +8,7 @@ use Rattle.rds_names.specs.declared.fault.Fault.{Fault}
 use Rattle.rds_names.specs.declared.fault.Fault.TheVariants.{Memory}
 use Rattle.rds_dots.specs.declared.dot.Dot.{Dot}
 use Rattle.rds_dots.specs.Dots.{dot_cmp, Dots}
-use Rattle.rds_life.specs.Life.{Life, Live, Dead, Lived, Agree, AreCompatible, MergeGives, lives_of, seen_of}
+use Rattle.rds_life.specs.Life.{Life, Live, Dead, Lived, Agree, LivesAreCompatible, MergeGives, lives_of, seen_of}
 use Rattle.rds_life.proofs.Views.{seen_of-lives_of}
 
 no_items : {X : Type 0} (xs : List X) → length xs ≡ 0 → xs ≡ []
@@ -32,6 +32,6 @@ pub agrees_nothing : (a b : Lived) → map.len b ≡ 0 → (d : Dot) → Agree (
 agrees_nothing a b none d = subst (Agree (map.get a d)) (sym (ap (λ (v : Lived). map.get v d) (map.empty_of_len b none) ∙ map.get-empty dot_cmp d)) (agrees (map.get a d))
 
 -- lives that have a join are refused for want of memory alone
-pub gives_memory : (a b : Lived) (r : Result (Unit {0}) Fault) → AreCompatible a b → IfErr r (λ f. f ≡ Memory) → MergeGives a b r
+pub gives_memory : (a b : Lived) (r : Result (Unit {0}) Fault) → LivesAreCompatible a b → IfErr r (λ f. f ≡ Memory) → MergeGives a b r
 gives_memory a b (Ok x) agree memory = agree
 gives_memory a b (Err f) agree memory = subst (λ g. MergeGives {T = Unit {0}} a b (Err g)) (sym memory) agree

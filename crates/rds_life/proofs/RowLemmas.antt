@@ -13,7 +13,7 @@ use Rattle.rds_dots.specs.Dots.{dot_cmp}
 use Rattle.rds_dots.specs.Ascending.{is_above, ascends}
 use Rattle.rds_dots.specs.Order.{dots_total, dots_exact}
 use Rattle.rds_names.specs.Conditions.{and_true, and_left, and_right, less_of, true_of}
-use Rattle.rds_dots.specs.Sets.{same_dot}
+use Rattle.rds_dots.specs.Sets.{tied_dots_are_one}
 use Rattle.rds_life.specs.Life.{keys}
 use Rattle.rds_life.specs.Joined.{row_if}
 
@@ -29,7 +29,7 @@ module _ {X : Type 0} where
   find_outside p d fails (r ∷ rows) all =
       let again = find_outside p d fails rows (and_right (p r.0) _ all) in
       elim (eq_by_cmp dot_cmp d r.0) as (λ b. eq_by_cmp dot_cmp d r.0 ≡ b → cond b (Some r.1) (find dot_cmp d rows) ≡ None) [
-        | true ↦ λ is. absurd (false≢true (sym fails ∙ ap p (same_dot d r.0 is) ∙ and_left (p r.0) _ all))
+        | true ↦ λ is. absurd (false≢true (sym fails ∙ ap p (tied_dots_are_one d r.0 is) ∙ and_left (p r.0) _ all))
         | false ↦ λ _. again
       ] refl
 
@@ -71,6 +71,6 @@ find-each f d [] = refl
 find-each f d (x ∷ ds) =
     let again = find-each f d ds in
     elim (eq_by_cmp dot_cmp d x) as (λ b. eq_by_cmp dot_cmp d x ≡ b → cond b (Some (f x)) (find dot_cmp d (each (λ y. (y, f y)) ds)) ≡ cond (b || list_any (eq_by_cmp dot_cmp d) ds) (Some (f d)) None) [
-      | true ↦ λ is. ap (λ y. Some (f y)) (sym (same_dot d x is))
+      | true ↦ λ is. ap (λ y. Some (f y)) (sym (tied_dots_are_one d x is))
       | false ↦ λ _. again
     ] refl

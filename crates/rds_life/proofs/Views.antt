@@ -12,7 +12,7 @@ use Rattle.rds_dots.specs.Dots.{dot_cmp, Dots}
 use Rattle.rds_dots.specs.Ascending.{ascends, is_above}
 use Rattle.rds_dots.specs.Order.{dots_total, dots_exact}
 use Rattle.rds_names.specs.Conditions.{and_true, and_left, and_right}
-use Rattle.rds_dots.specs.Sets.{same_dot}
+use Rattle.rds_dots.specs.Sets.{tied_dots_are_one}
 use Rattle.rds_life.specs.Life.{Life, Live, Dead, Lived, keys, life_of, lives_of, AreRows, entry_of, seen_of, live_row}
 use Rattle.rds_life.specs.Life.{live_rows}
 use Rattle.rds_life.proofs.RowLemmas.{find_above, rise_of, same_rows}
@@ -33,7 +33,7 @@ find-live_in : (lives : List (Dot × Life)) → ascends (keys lives) ≡ true �
 find-live_in [] rise d = refl
 find-live_in (x ∷ lives) rise d =
     find_live d x.0 x.1 lives
-    (λ is. ap (λ q. map.find dot_cmp q lives) (same_dot d x.0 is) ∙ find_above x.0 lives (and_left _ (ascends (keys lives)) rise))
+    (λ is. ap (λ q. map.find dot_cmp q lives) (tied_dots_are_one d x.0 is) ∙ find_above x.0 lives (and_left _ (ascends (keys lives)) rise))
     (find-live_in lives (and_right (list_all (is_above x.0) (keys lives)) _ rise) d)
 
 all_live : (p : Dot → Bool) (x : Dot) (l : Life) (lives : List (Dot × Life)) → p x ≡ true → list_all p (keys (live_in lives)) ≡ true → list_all p (keys (cons_option (live_row x l) (live_in lives))) ≡ true

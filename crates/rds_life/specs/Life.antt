@@ -112,7 +112,7 @@ Agree (Some Dead) l = Unit {0}
 Agree None l = Unit {0}
 
 -- no dot is live in both with different entries
-pub record AreCompatible (a b : Lived) : Type 0 where
+pub record LivesAreCompatible (a b : Lived) : Type 0 where
   pub each_dot : (d : Dot) → Agree (map.get a d) (map.get b d)
 
 -- the least dot that is live in both with different entries
@@ -121,12 +121,12 @@ pub record IsFirstConflict (a b : Lived) (d : Dot) : Type 0 where
   pub first : (q : Dot) → is_lt (dot_cmp q d) ≡ true → Agree (map.get a q) (map.get b q)
 
 abbrev pub Conflicts : Lived → Lived → Option Dot → Type 0
-Conflicts a b None = AreCompatible a b
+Conflicts a b None = LivesAreCompatible a b
 Conflicts a b (Some d) = IsFirstConflict a b d
 
 -- when a merge succeeds, and which fault it gives; want of memory only where it could succeed
 abbrev pub MergeGives : {T : Type 0} → Lived → Lived → Result T Fault → Type 0
-MergeGives a b (Ok x) = AreCompatible a b
-MergeGives a b (Err Memory) = AreCompatible a b
+MergeGives a b (Ok x) = LivesAreCompatible a b
+MergeGives a b (Err Memory) = LivesAreCompatible a b
 MergeGives a b (Err (Conflict r n)) = IsFirstConflict a b (record { replica = r; seq = n })
 MergeGives a b (Err f) = ⊥

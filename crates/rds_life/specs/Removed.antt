@@ -6,5 +6,5 @@ use Rattle.rds_dots.specs.declared.dot.Dot.{Dot}
 use Rattle.rds_dots.specs.Dots.{dot_cmp}
 
 -- all rows but the dot's
-abbrev pub without : {X : Type 0} → Dot → List (Dot × X) → List (Dot × X)
-without d rows = filter (λ r. not (eq_by_cmp dot_cmp d r.0)) rows
+abbrev pub rows_without : {X : Type 0} → Dot → List (Dot × X) → List (Dot × X)
+rows_without d rows = filter (λ r. not (eq_by_cmp dot_cmp d r.0)) rows

@@ -12,7 +12,7 @@ ghost use Rattle.rds_dots.specs.Lacking.{dot_of};
 ghost use Rattle.rds_life.specs.Killed.{killed_by, but_for, is_the};
 ghost use Rattle.rds_life.specs.KnownDead.{HasMore};
 ghost use Rattle.rds_life.specs.Life.{Live, Dead, AreRows, keys, lives_of, seen_of, live_of, live_rows, entry_of};
-ghost use Rattle.rds_life.specs.Life.{is_dead, AreCompatible, Conflicts, IsJoin, IsLeastAbove, MergeGives};
+ghost use Rattle.rds_life.specs.Life.{is_dead, LivesAreCompatible, Conflicts, IsJoin, IsLeastAbove, MergeGives};
 ghost use Rattle.rds_life.specs.Past.{first_row, rows_from};
 ghost use Rattle.rds_life.specs.Rank.{rank_of};
 
@@ -350,7 +350,7 @@ impl<S: DotSet> Lives<S> {
 
     /// Joins the other's lives into these as `merge` does, where they are known to have a join.
     pub fn merge_compatible(&mut self, other: &Lives<S>) -> Result<(), Fault>
-        requires compatible { AreCompatible self.old other.now }
+        requires compatible { LivesAreCompatible self.old other.now }
         ensures ok { OnOk result (IsJoin self.old other.now self.new) }
         ensures least { OnOk result (IsLeastAbove self.old other.now self.new) }
         ensures memory { IfErr result (λ fault. fault ≡ Memory) }

@@ -9,7 +9,7 @@ ghost use Rattle.rds_dots.specs.Ascending.{ascends};
 ghost use Rattle.rds_dots.specs.Dots.{dot_cmp};
 ghost use Rattle.rds_life.specs.Life.{keys};
 ghost use Rattle.rds_life.specs.Past.{first_row, rows_from, rows_past};
-ghost use Rattle.rds_life.specs.Removed.{without};
+ghost use Rattle.rds_life.specs.Removed.{rows_without};
 
 use crate::chosen::Choice;
 use rds_dots::Dot;
@@ -120,7 +120,7 @@ impl RowMap {
 
     /// Takes out the row of a dot, if it has one.
     pub fn remove(&mut self, dot: Dot)
-        ensures { self.new ≡ without dot self.old }
+        ensures { self.new ≡ rows_without dot self.old }
     {
         let _in_order = self.rows.len();
         let _entry = self.rows.remove(&dot);

@@ -5,10 +5,10 @@ ghost use Rattle.std.specs.Option.{option_copied, option_map};
 ghost use Rattle.rds_names.specs.declared.fault.Fault.TheVariants.{Memory};
 ghost use Rattle.rds_dots.specs.Ascending.{ascends};
 ghost use Rattle.rds_dots.specs.Dots.{dot_cmp};
-ghost use Rattle.rds_life.specs.Fits.{before_next};
+ghost use Rattle.rds_life.specs.Fits.{dot_before_next};
 ghost use Rattle.rds_life.specs.Life.{AreRows, keys};
 ghost use Rattle.rds_life.specs.Past.{first_row, rows_from, rows_past};
-ghost use Rattle.rds_life.specs.Removed.{without};
+ghost use Rattle.rds_life.specs.Removed.{rows_without};
 
 use rds_dots::{Dot, DotSet};
 use rds_names::{Entry, Fault};
@@ -46,7 +46,7 @@ pub fn are_rows<S: DotSet>(seen: &S, rows: &[(Dot, Entry)]) -> bool
 
 /// Whether a dot comes before the first row.
 fn is_before(dot: Dot, rows: &[(Dot, Entry)]) -> bool
-    ensures { result ≡ before_next dot rows.now }
+    ensures { result ≡ dot_before_next dot rows.now }
 {
     match rows.first() {
         Some(row) => dot < row.0,
@@ -117,7 +117,7 @@ pub fn insert_row(rows: &mut Vec<(Dot, Entry)>, dot: Dot, entry: Entry) -> Resul
 /// Takes out the row of a dot, if it has one.
 pub fn remove_row(rows: &mut Vec<(Dot, Entry)>, dot: Dot)
     requires { ascends (keys rows.old.items) ≡ true }
-    ensures { rows.new.items ≡ without dot rows.old.items }
+    ensures { rows.new.items ≡ rows_without dot rows.old.items }
 {
     if let Ok(at) = rows.binary_search_by_key(&dot, |row| row.0) {
         rows.remove(at);

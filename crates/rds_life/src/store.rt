@@ -13,7 +13,7 @@ ghost use Rattle.rds_names.specs.declared.fault.Fault.TheVariants.{Memory};
 ghost use Rattle.rds_dots.specs.Ascending.{ascends};
 ghost use Rattle.rds_dots.specs.Dots.{dot_cmp};
 ghost use Rattle.rds_life.specs.Life.{AreRows, keys};
-ghost use Rattle.rds_life.specs.Removed.{without};
+ghost use Rattle.rds_life.specs.Removed.{rows_without};
 
 use crate::adding::join_in;
 use crate::chosen::{Choice, remove_chosen};
@@ -109,7 +109,7 @@ impl Rows {
     /// Takes out the row of a dot, if it has one.
     pub fn remove(&mut self, dot: Dot)
         requires { ascends (keys self.old) ≡ true }
-        ensures { self.new ≡ without dot self.old }
+        ensures { self.new ≡ rows_without dot self.old }
     {
         match &mut self.form {
             Form::Listed(rows) => remove_row(rows, dot),

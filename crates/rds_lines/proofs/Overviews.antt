@@ -11,7 +11,8 @@ use Rattle.rds_dots.specs.declared.dot.Dot.{Dot}
 use Rattle.rds_life.specs.Life.{Dead, Life, Live, Lived, is_dead, live_row, live_rows}
 use Rattle.rds_state.proofs.CountLemmas.{count-cons}
 use Rattle.rds_tree.specs.Distinct.{distinct}
-use Rattle.rds_tree.specs.Document.{key_cmp, sums_of}
+use Rattle.rds_tree.specs.Document.{sums_of}
+use Rattle.rds_names.specs.Key.{key_cmp}
 use Rattle.rds_tree.proofs.CountedKeys.{sums_whole}
 use Rattle.rds_lines.specs.Overview.{dead_count}
 

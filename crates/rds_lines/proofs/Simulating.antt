@@ -11,7 +11,7 @@ use Rattle.rds_json.specs.declared.line.Line.TheVariants as lines
 use Rattle.rds_world.specs.Events.{IsAccepted, IsDone, RefusesEvent, roster_after_event}
 use Rattle.rds_world.specs.Stands.{Stands, state_of}
 use Rattle.rds_world.specs.Stored.{WorldValue}
-use Rattle.rds_world.specs.World.{World, Question, Reply as ModelReply, after, after_answer, after_take, start}
+use Rattle.rds_world.specs.World.{World, Question, Reply as ModelReply, after, after_answer, after_take, initial_world}
 use Rattle.rds_world.specs.declared.event.Event.{Event}
 use Rattle.rds_world.specs.declared.event.Event.TheVariants.{Edit, Save, Crash, Ask, Answer as Answering, Take, Grow}
 use Rattle.rds_world.specs.declared.event.Done.{Done as Outcome}
@@ -21,7 +21,7 @@ use Rattle.rds_lines.specs.Views.{ShowsView}
 use Rattle.rds_lines.specs.declared.views.Layout.TheVariants.{Compact}
 use Rattle.rds_lines.specs.Lines.{lines_in}
 use Rattle.rds_output.specs.Output.{fault_line}
-use Rattle.rds_lines.specs.Sim.{Group, IsSimOutput, MayBeSimulated, MeetsBytes, MeetsFirst, MeetsLines, MeetsRequest, done_reply, group_after, opening, request_of}
+use Rattle.rds_lines.specs.Sim.{Group, IsSimOutput, MayBeSimulated, MeetsBytes, MeetsFirst, MeetsLines, MeetsRequest, done_reply, group_after, opening_group, request_of}
 use Rattle.rds_lines.specs.Streams.{NoneFailed, Stream, Emits}
 use Rattle.rds_lines.specs.Simulated.{IsGroup, LeadsGroupTo, LineLeadsTo, StandsForGroup, reply_of}
 use Rattle.rds_output.specs.declared.reply.Reply.{Reply}
@@ -122,10 +122,10 @@ line_shows v line number path (Err fault) is ok err now h =
 
 -- ---- a line, whether there is a group or none
 
-world_opens : (roster : RosterValue) (world : WorldValue) → (world.roster ≡ roster) × Stands world (start roster.names) → LineLeadsTo None None (lines.Roster roster) (Ok Done) (Some world)
-world_opens roster world h none = (Some (opening roster), record { stands = h.1; roster = h.0; whole = refl }, inr (refl, refl))
+world_opens : (roster : RosterValue) (world : WorldValue) → (world.roster ≡ roster) × Stands world (initial_world roster.names) → LineLeadsTo None None (lines.Roster roster) (Ok Done) (Some world)
+world_opens roster world h none = (Some (opening_group roster), record { stands = h.1; roster = h.0; whole = refl }, inr (refl, refl))
 
-pub worlds_open : (roster : RosterValue) (opened : Result WorldValue Fault) → IfOk opened (λ world. Stands world (start roster.names)) → IfOk opened (λ world. world.roster ≡ roster)
+pub worlds_open : (roster : RosterValue) (opened : Result WorldValue Fault) → IfOk opened (λ world. Stands world (initial_world roster.names)) → IfOk opened (λ world. world.roster ≡ roster)
     → IfOk opened (λ world. LineLeadsTo None None (lines.Roster roster) (Ok Done) (Some world))
 worlds_open roster (Ok world) stands same = world_opens roster world (same, stands)
 worlds_open roster (Err fault) stands same = tt

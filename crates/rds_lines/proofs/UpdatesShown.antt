@@ -19,7 +19,7 @@ use Rattle.rds_world.specs.Events.{roster_after_event}
 use Rattle.rds_world.specs.Law.{held_after, world_after}
 use Rattle.rds_world.specs.Simulation.{roster_with_names}
 use Rattle.rds_world.specs.Updates.{ShowsUpdates}
-use Rattle.rds_world.specs.World.{World, Happening, Of, Accepted, after, refusal_of, start}
+use Rattle.rds_world.specs.World.{World, Happening, Of, Accepted, after, refusal_of, initial_world}
 use Rattle.rds_world.specs.declared.event.Event.{Event}
 use Rattle.rds_world.specs.declared.event.Done.{Done as Outcome}
 use Rattle.rds_world.specs.declared.event.Done.TheVariants as outcomes
@@ -30,7 +30,7 @@ use Rattle.rds_output.specs.Reply.{is_refusal, reply_line}
 use Rattle.rds_output.specs.declared.reply.Reply.{Reply}
 use Rattle.rds_output.specs.declared.reply.Reply.TheVariants.{Done}
 use Rattle.rds_lines.specs.Lines.{is_text_line}
-use Rattle.rds_lines.specs.Sim.{Group, MeetsBytes, MeetsEvent, MeetsLine, MeetsLines, MeetsRead, MeetsRequest, done_reply, group_after, line_of_bytes, opening, request_of}
+use Rattle.rds_lines.specs.Sim.{Group, MeetsBytes, MeetsEvent, MeetsLine, MeetsLines, MeetsRead, MeetsRequest, done_reply, group_after, line_of_bytes, opening_group, request_of}
 use Rattle.rds_lines.specs.SimLaws.{AnsweredLine, AsksFor, CameTo, WasRefused, NamesGroup, Refused, Happened, Shown, ShowsHeld, ShowsTheirUpdates, SimShowsUpdates, events_of}
 use Rattle.rds_lines.specs.Views.{ShowsView}
 use Rattle.rds_lines.specs.declared.sim.Request.{Request}
@@ -82,7 +82,7 @@ met g bytes answer next m = elim m [
 
 data Begun (bytes : List ℕ) (answer : Reply) (next : Option Group) : Type 0 where
   not_yet : is_refusal answer ≡ true → next ≡ None → Begun bytes answer next
-  has_begun : (roster : RosterValue) → line_of_bytes bytes ≡ Ok (lines.Roster roster) → answer ≡ Done → next ≡ Some (opening roster) → Begun bytes answer next
+  has_begun : (roster : RosterValue) → line_of_bytes bytes ≡ Ok (lines.Roster roster) → answer ≡ Done → next ≡ Some (opening_group roster) → Begun bytes answer next
 
 begun_line : (bytes : List ℕ) (line : Line) → line_of_bytes bytes ≡ Ok line → (answer : Reply) (next : Option Group) → MeetsLine None line answer next → Begun bytes answer next
 begun_line bytes (lines.Roster roster) is answer next m = has_begun roster is m.0 m.1
@@ -117,17 +117,17 @@ few_named bytes roster is =
 record IsAfter (roster : RosterValue) (es : List Happening) (g : Group) : Type 0 where
   world : g.world ≡ world_after roster.names es
   same : g.roster ≡ roster_with_names roster (world_after roster.names es)
-  accepted : Accepted es (start roster.names)
+  accepted : Accepted es (initial_world roster.names)
 
 after_one : (roster : RosterValue) (es : List Happening) (g : Group) (e : Event) → IsAfter roster es g → refusal_of g.world e ≡ None → IsAfter roster (es ++ Of e ∷ []) (group_after g e)
 after_one roster es g e at due =
     let w = world_after roster.names es in
-    let on : world_after roster.names (es ++ Of e ∷ []) ≡ after w e = run_on es (Of e ∷ []) (start roster.names) in
+    let on : world_after roster.names (es ++ Of e ∷ []) ≡ after w e = run_on es (Of e ∷ []) (initial_world roster.names) in
     let here : refusal_of w e ≡ None = subst (λ (x : World). refusal_of x e ≡ None) at.world due in
     record {
       world = ap (λ (x : World). after x e) at.world ∙ sym on;
       same = ap (λ (r : RosterValue). roster_after_event r e) at.same ∙ sym (roster_goes_on roster w e) ∙ ap (roster_with_names roster) (sym on);
-      accepted = (accepted_on es (Of e ∷ []) (start roster.names)).1 (at.accepted, (here, tt));
+      accepted = (accepted_on es (Of e ∷ []) (initial_world roster.names)).1 (at.accepted, (here, tt));
     }
 
 -- ---- lines of a group, one after the other
@@ -276,10 +276,10 @@ refused_first bytes answer lines rest out more refused is out_is refused_is s =
     }
 
 roster_first : (bytes : List ℕ) (answer : Reply) (roster : RosterValue) → line_of_bytes bytes ≡ Ok (lines.Roster roster) → answer ≡ Done → (lines : List (List ℕ)) (rest out : List ℕ) (more refused : Bool)
-    → MeetsLines lines (Some (opening roster)) rest more → out ≡ reply_line answer ++ rest → refused ≡ (is_refusal answer || more) → ShowsTheirUpdates (bytes ∷ lines) out refused
+    → MeetsLines lines (Some (opening_group roster)) rest more → out ≡ reply_line answer ++ rest → refused ≡ (is_refusal answer || more) → ShowsTheirUpdates (bytes ∷ lines) out refused
 roster_first bytes answer roster named done lines rest out more refused m out_is refused_is =
     let first : AnsweredLine = record { line = bytes; answer = answer; event = None } in
-    let later = of_group roster (few_named bytes roster named) lines [] (opening roster) (record { world = refl; same = refl; accepted = tt }) rest more m in
+    let later = of_group roster (few_named bytes roster named) lines [] (opening_group roster) (record { world = refl; same = refl; accepted = tt }) rest more m in
     record {
       answered = first ∷ later.answered;
       of_lines = ap (λ (l : List (List ℕ)). bytes ∷ l) later.of_lines;

@@ -32,7 +32,7 @@ use Rattle.rds_json.specs.declared.line.Line.TheVariants as lines
 use Rattle.rds_world.specs.Events.{IsAccepted, IsDone, RefusesEvent, roster_after_event}
 use Rattle.rds_world.specs.Stands.{Stands}
 use Rattle.rds_world.specs.Stored.{WorldValue}
-use Rattle.rds_world.specs.World.{World, after, start}
+use Rattle.rds_world.specs.World.{World, after, initial_world}
 use Rattle.rds_world.specs.declared.event.Event.{Event}
 use Rattle.rds_world.specs.declared.event.Event.TheVariants as events
 use Rattle.rds_world.specs.declared.event.Done.{Done as Outcome}
@@ -49,8 +49,8 @@ pub record Group : Type 0 where
   pub roster : RosterValue
   pub world : World
 
-abbrev pub opening : RosterValue → Group
-opening roster = record { roster = roster; world = start roster.names }
+abbrev pub opening_group : RosterValue → Group
+opening_group roster = record { roster = roster; world = initial_world roster.names }
 
 -- a line is refused, and changes nothing
 abbrev pub LineIsRefused : Option Group → Fault → Reply → Option Group → Type 0
@@ -120,7 +120,7 @@ MeetsRequest g (Err fault) answer next = LineIsRefused (Some g) fault answer nex
 
 -- before a roster there is no replica
 abbrev pub MeetsLine : Option Group → Line → Reply → Option Group → Type 0
-MeetsLine None (lines.Roster roster) answer next = (answer ≡ Done) × (next ≡ Some (opening roster))
+MeetsLine None (lines.Roster roster) answer next = (answer ≡ Done) × (next ≡ Some (opening_group roster))
 MeetsLine None line answer next = LineIsRefused None NoSuch answer next
 MeetsLine (Some g) line answer next = MeetsRequest g (request_of g.roster line) answer next
 

@@ -8,7 +8,7 @@ use Rattle.rds_json.specs.declared.line.Line.TheVariants as lines
 use Rattle.rds_world.specs.Law.{held_after, world_after}
 use Rattle.rds_world.specs.Simulation.{roster_with_names}
 use Rattle.rds_world.specs.Updates.{ShowsUpdates}
-use Rattle.rds_world.specs.World.{Happening, Of, Accepted, start}
+use Rattle.rds_world.specs.World.{Happening, Of, Accepted, initial_world}
 use Rattle.rds_world.specs.declared.event.Event.{Event}
 use Rattle.rds_output.specs.Reply.{is_refusal, reply_line}
 use Rattle.rds_output.specs.declared.reply.Reply.{Reply}
@@ -65,7 +65,7 @@ pub record NamesGroup (answered : List AnsweredLine) : Type 0 where
   pub roster : RosterValue
   pub named : line_of_bytes first.line ≡ Ok (lines.Roster roster)
   pub done : (first.answer ≡ Done) × (first.event ≡ None)
-  pub accepted : Accepted (events_of behind) (start roster.names)
+  pub accepted : Accepted (events_of behind) (initial_world roster.names)
   pub came : (earlier later : List AnsweredLine) (a : AnsweredLine) → behind ≡ earlier ++ a ∷ later
       → CameTo roster earlier a
 

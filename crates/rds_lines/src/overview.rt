@@ -6,7 +6,8 @@ ghost use Rattle.serde_json.specs.Written.{compact_text};
 ghost use Rattle.rds_names.specs.declared.fault.Fault.TheVariants.{Memory};
 ghost use Rattle.rds_state.specs.Mark.{mark_of};
 ghost use Rattle.rds_tree.specs.Distinct.{is_last};
-ghost use Rattle.rds_tree.specs.Document.{key_cmp, sums_of};
+ghost use Rattle.rds_tree.specs.Document.{sums_of};
+ghost use Rattle.rds_names.specs.Key.{key_cmp};
 ghost use Rattle.rds_lines.specs.Overview.{
   AreAmounts,
   IsOverview,

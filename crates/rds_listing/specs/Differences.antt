@@ -13,7 +13,8 @@ use Rattle.rds_names.specs.declared.entry.Kind.{Kind}
 use Rattle.rds_names.specs.declared.entry.Kind.TheVariants.{Elem, Reg}
 use Rattle.rds_names.specs.declared.scalar.Scalar.{Scalar}
 use Rattle.rds_state.specs.Value.{StateValue}
-use Rattle.rds_tree.specs.Document.{Placed, document, key_cmp}
+use Rattle.rds_tree.specs.Document.{Placed, document}
+use Rattle.rds_names.specs.Key.{key_cmp}
 use Rattle.rds_tree.specs.Shown.{Shown}
 use Rattle.rds_tree.specs.Shows.{counters_in}
 use Rattle.rds_tree.specs.View.{view_of}

@@ -4,7 +4,7 @@ use Rattle.std.specs.Ordering.{is_gt}
 use Rattle.rds_names.specs.declared.entry.Kind.{Kind}
 use Rattle.rds_names.specs.declared.entry.Kind.TheVariants.{Elem, Reg}
 use Rattle.rds_names.specs.declared.scalar.Scalar.{Scalar}
-use Rattle.rds_tree.specs.Document.{key_cmp}
+use Rattle.rds_names.specs.Key.{key_cmp}
 use Rattle.rds_tree.specs.Shown.{Shown, shows, ShownMaps, no_maps, a_map}
 
 -- a register or a set: its path from the root, and its values

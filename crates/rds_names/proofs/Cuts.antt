@@ -5,7 +5,7 @@ use Rattle.std.proofs.lemmas.Bool.Decides.{nat_tests, Decides-eqb}
 use Rattle.std.proofs.lemmas.List.Splits.{slice_split_first, slice_split-cons_no}
 use Rattle.std.proofs.lemmas.List.Sums.{passes_at_first}
 use Rattle.std.specs.List.{position_or_len, onto_first}
-use Rattle.rds_names.specs.Path.{cut}
+use Rattle.rds_names.specs.Path.{segments}
 
 abbrev pub is_slash : ℕ → Bool
 is_slash b = b == 47
@@ -29,18 +29,18 @@ unslashed : (b : Bool) (x : ℕ) (xs : List ℕ) → is_slash x ≡ b → length
 unslashed true x xs is h = let at : place (x ∷ xs) ≡ 0 = ap (λ t. cond (not t) (1 + place xs) 0) is in absurd (omega arith)
 unslashed false x xs is h = let at : place (x ∷ xs) ≡ 1 + place xs = ap (λ t. cond (not t) (1 + place xs) 0) is in (is, omega arith)
 
-one_piece : (bs : List ℕ) → length bs ≤ place bs → cut bs ≡ bs ∷ []
+one_piece : (bs : List ℕ) → length bs ≤ place bs → segments bs ≡ bs ∷ []
 one_piece [] h = refl
 one_piece (b ∷ bs) h =
     let both = unslashed (is_slash b) b bs refl h in
     slice_split-cons_no is_slash b bs both.0 ∙ ap (onto_first b) (one_piece bs both.1)
 
 -- a text with no '/' is its one piece
-pub cut_none : (bs : List ℕ) → found bs ≡ None → cut bs ≡ bs ∷ []
+pub cut_none : (bs : List ℕ) → found bs ≡ None → segments bs ≡ bs ∷ []
 cut_none bs none = one_piece bs (unpicked (place bs) (length bs) (ltb (place bs) (length bs)) refl none)
 
 pub record CutAt (bs : List ℕ) (at : ℕ) : Type 0 where
-  pub parts : cut bs ≡ take at bs ∷ cut (drop (at + 1) bs)
+  pub parts : segments bs ≡ take at bs ∷ segments (drop (at + 1) bs)
   pub within : at < length bs
   pub slash : get_or bs at 0 ≡ 47
 
@@ -50,7 +50,7 @@ cut_some bs at some =
     let both = picked (place bs) (length bs) at (ltb (place bs) (length bs)) refl some in
     let lt : place bs < length bs = both.1 in
     record {
-      parts = slice_split_first is_slash bs 0 lt ∙ ap (λ n. take n bs ∷ cut (drop (n + 1) bs)) both.0;
+      parts = slice_split_first is_slash bs 0 lt ∙ ap (λ n. take n bs ∷ segments (drop (n + 1) bs)) both.0;
       within = omega (arith, both.0, both.1);
       slash = ap (λ n. get_or bs n 0) (sym both.0) ∙ (Decides-eqb _ 47).0 (passes_at_first is_slash bs 0 lt);
     }

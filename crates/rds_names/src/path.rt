@@ -7,7 +7,7 @@ ghost use Rattle.rds_names.specs.Key.{is_key};
 ghost use Rattle.rds_names.specs.declared.fault.Fault.TheVariants.{Memory, BadKey};
 ghost use Rattle.std.specs.Option.{option_copied};
 ghost use Rattle.rds_names.specs.Gives.{Gives};
-ghost use Rattle.rds_names.specs.Path.{path_of, path_of_keys, cut};
+ghost use Rattle.rds_names.specs.Path.{path_of, path_of_keys, segments};
 
 use crate::fault::Fault;
 use crate::key::Key;
@@ -169,7 +169,7 @@ impl Eq for Path {
 
 /// How many pieces a text has. The byte of a '/' is in no other character.
 fn count_pieces(text: &str) -> usize
-    ensures { result ≡ length (cut text.now) }
+    ensures { result ≡ length (segments text.now) }
 {
     let mut pieces = 1;
     for byte in text.as_bytes() {
@@ -182,8 +182,8 @@ fn count_pieces(text: &str) -> usize
 
 /// The text before the first '/' and the text behind it, unless there is none.
 fn cut_once(text: &str) -> Option<(&str, &str)>
-    ensures { MatchOption result (cut text.now ≡ text.now ∷ [])
-        (λ parts. (cut text.now ≡ parts.0.now ∷ cut parts.1.now) × (length parts.1.now < length text.now)) }
+    ensures { MatchOption result (segments text.now ≡ text.now ∷ [])
+        (λ parts. (segments text.now ≡ parts.0.now ∷ segments parts.1.now) × (length parts.1.now < length text.now)) }
 {
     let at = text.as_bytes().iter().position(|byte| *byte == b'/')?;
     Some((&text[..at], &text[at + 1..]))
@@ -191,8 +191,8 @@ fn cut_once(text: &str) -> Option<(&str, &str)>
 
 /// The pieces of a text, as keys. It fails where one is no key, and where there is no memory.
 fn keys_of(alloc: Global, text: &str, pieces: usize) -> Result<Vec<Key>, Fault>
-    ensures keys { IfOk result (λ keys. keys.items ≡ cut text.now) }
-    ensures tested { IsOk result → IsTrue (list_all is_key (cut text.now)) }
+    ensures keys { IfOk result (λ keys. keys.items ≡ segments text.now) }
+    ensures tested { IsOk result → IsTrue (list_all is_key (segments text.now)) }
 {
     let mut keys = Vec::with_capacity(alloc, pieces)?;
     let mut rest = text;
@@ -207,7 +207,7 @@ fn keys_of(alloc: Global, text: &str, pieces: usize) -> Result<Vec<Key>, Fault>
 /// Why no keys could be made of a text. It is asked for only then, since it cuts the text once more.
 #[inline(never)]
 fn fault_of_pieces(text: &str) -> Fault
-    ensures { result ≡ (if list_all is_key (cut text.now) then Memory else BadKey) }
+    ensures { result ≡ (if list_all is_key (segments text.now) then Memory else BadKey) }
 {
     if text.split('/').all(|piece| Key::is_key(piece)) {
         Fault::Memory

@@ -8,7 +8,7 @@ use Rattle.rds_bytes.specs.Reading.{Fails}
 use Rattle.rds_bytes.proofs.Format.{IsBytes, err_is, failed, ok_is}
 use Rattle.rds_briefs.specs.Briefs.{brief_kind, brief_text}
 use Rattle.rds_briefs.proofs.Apart.{briefs_apart}
-use Rattle.rds_codec.specs.Decoding.{Answers, BeginsWithText, Decodes, IsTextOf}
+use Rattle.rds_codec.specs.Decoding.{GivesOrMemory, BeginsWithText, Decodes, IsTextOf}
 use Rattle.rds_codec.specs.DigestTexts.{IsDigestOf}
 use Rattle.rds_codec.specs.HelloTexts.{IsHello, hello_text}
 use Rattle.rds_codec.specs.Kinds.{Kind}

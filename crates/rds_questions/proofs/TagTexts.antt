@@ -13,7 +13,7 @@ use Rattle.rds_state.specs.Fits.{ReplicaValue}
 use Rattle.rds_answers.proofs.MarkHalves.{mark_is_mark}
 use Rattle.rds_questions.specs.Hashed.{question_hash, told_text}
 use Rattle.rds_questions.specs.Questions.{question_of}
-use Rattle.rds_questions.specs.Tags.{IsTag, IsTagOf, tag_at, tag_by, tag_kind, tag_of, tag_text}
+use Rattle.rds_questions.specs.Tags.{IsTag, IsTagOf, tag_at, tag_by, tag_kind, tag_of, tag_bytes}
 use Rattle.rds_questions.specs.declared.tags.Tag.{Tag}
 
 -- ---- bytes
@@ -102,12 +102,12 @@ tag_format : IsFormat tag_at (λ t. parts_text (parts_of t)) (λ t. FitParts (pa
 unfolding tag_at
 tag_format = made_format tag_by parts_of (pair_at (bytes_at 32) (pair_at (number_at w64) (number_at w64))) parts_text FitParts (λ t. FitParts (parts_of t)) (λ t h. (h, refl)) (λ p h. (h, refl)) parts_format
 
-tag_spelled : (t : Tag) → tag_text t ≡ parts_text (parts_of t)
-unfolding tag_text
+tag_spelled : (t : Tag) → tag_bytes t ≡ parts_text (parts_of t)
+unfolding tag_bytes
 tag_spelled t = refl
 
 -- it is written part by part
-pub tag_added : (old a b c : List ℕ) (t : Tag) → a ≡ old ++ t.hash → b ≡ a ++ to_be_bytes w64 t.mark.high → c ≡ b ++ to_be_bytes w64 t.mark.low → c ≡ old ++ tag_text t
+pub tag_added : (old a b c : List ℕ) (t : Tag) → a ≡ old ++ t.hash → b ≡ a ++ to_be_bytes w64 t.mark.high → c ≡ b ++ to_be_bytes w64 t.mark.low → c ≡ old ++ tag_bytes t
 tag_added old a b c t first second third =
     let high = to_be_bytes w64 t.mark.high in
     let low = to_be_bytes w64 t.mark.low in
@@ -115,7 +115,7 @@ tag_added old a b c t first second third =
     ∙ (ap (λ (s : List ℕ). s ++ low) (second ∙ ap (λ (s : List ℕ). s ++ high) first)
     ∙ (append_assoc (old ++ t.hash) high low ∙ (append_assoc old t.hash (high ++ low) ∙ sym (ap (λ (s : List ℕ). old ++ s) (tag_spelled t)))))
 
-tag_takes : (bytes : List ℕ) (x : Tag × List ℕ) → IsBytes bytes → Takes bytes (parts_text (parts_of x.0)) x.1 × FitParts (parts_of x.0) → Takes bytes (tag_text x.0) x.1 × IsTag x.0
+tag_takes : (bytes : List ℕ) (x : Tag × List ℕ) → IsBytes bytes → Takes bytes (parts_text (parts_of x.0)) x.1 × FitParts (parts_of x.0) → Takes bytes (tag_bytes x.0) x.1 × IsTag x.0
 tag_takes bytes x fits read =
     let t = x.0 in
     let behind = to_be_bytes w64 t.mark.high ++ to_be_bytes w64 t.mark.low in

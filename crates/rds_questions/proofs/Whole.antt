@@ -13,7 +13,7 @@ use Rattle.rds_codec.specs.declared.limits.TheConstants.{LIMIT}
 use Rattle.rds_codec.proofs.HelloFormats.{hello_reader}
 use Rattle.rds_questions.specs.Questions.{front_at}
 use Rattle.rds_questions.specs.Responses.{Answerer, format_said, replicas_with, response_at, response_by, response_front}
-use Rattle.rds_questions.specs.Tags.{tag_at, tag_text}
+use Rattle.rds_questions.specs.Tags.{tag_at, tag_bytes}
 use Rattle.rds_questions.specs.declared.tags.Tag.{Tag}
 use Rattle.rds_questions.proofs.Readers.{front_reader}
 use Rattle.rds_questions.proofs.TagTexts.{tag_reader}
@@ -70,7 +70,7 @@ answer_fails askers bytes fits le first second third h t p q u format replicas i
     let le_first = shorter bytes response_front first front.0.parts le in
     let le_second = shorter first (hello_text h) second hello.0.parts le_first in
     let tag = tag_reader.takes second (t, third) hello.0.rest_fits u in
-    let le_third = shorter second (tag_text t) third tag.0.parts le_second in
+    let le_third = shorter second (tag_bytes t) third tag.0.parts le_second in
     let r = all_of (answer_at_in (format_said h.version) (replicas_with askers h)) third in
     fails_on e r (made response_front (h, t) response_by) (all_of (response_at askers) bytes) (response_ends askers bytes first second third h t p q u)
     (subst (λ n. Fails e (all_of (answer_at_in (format_said h.version) n) third)) is (subst (λ f. Fails e (all_of (answer_at_in f replicas) third)) is_format (fails le_third)))

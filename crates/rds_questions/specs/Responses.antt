@@ -11,7 +11,7 @@ use Rattle.rds_codec.specs.declared.formats.Format.{Format}
 use Rattle.rds_codec.specs.declared.formats.Format.TheVariants.{One, Two}
 use Rattle.rds_codec.specs.declared.hellos.Hello.{Hello}
 use Rattle.rds_questions.specs.Questions.{coded_hello, front_at}
-use Rattle.rds_questions.specs.Tags.{IsTag, coded_tag, tag_at, tag_text}
+use Rattle.rds_questions.specs.Tags.{IsTag, coded_tag, tag_at, tag_bytes}
 use Rattle.rds_questions.specs.declared.tags.Tag.{Tag}
 
 -- who answers, by the version in whose format the answer is, and its tag
@@ -41,7 +41,7 @@ response_front = codes "RDSC"
 
 -- who answers: the hello and the tag
 abbrev pub answerer_text : Hello → Tag → List ℕ
-answerer_text hello tag = hello_text hello ++ tag_text tag
+answerer_text hello tag = hello_text hello ++ tag_bytes tag
 
 unfoldable pub response_text : ResponseValue → List ℕ
 response_text r =

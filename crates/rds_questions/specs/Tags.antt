@@ -47,8 +47,8 @@ coded_tag =
 -- ---- its text
 
 -- the hash, and the halves of the mark, the high one first
-unfoldable pub tag_text : Tag → List ℕ
-tag_text tag = tag.hash ++ (to_be_bytes w64 tag.mark.high ++ to_be_bytes w64 tag.mark.low)
+unfoldable pub tag_bytes : Tag → List ℕ
+tag_bytes tag = tag.hash ++ (to_be_bytes w64 tag.mark.high ++ to_be_bytes w64 tag.mark.low)
 
 abbrev pub tag_by : List ℕ × (ℕ × ℕ) → Tag
 tag_by p = record { hash = p.0; mark = record { high = p.1.0; low = p.1.1 } }
@@ -57,4 +57,4 @@ unfoldable pub tag_at : Reader Tag
 tag_at = made_at tag_by (pair_at (bytes_at 32) (pair_at (number_at w64) (number_at w64)))
 
 abbrev pub tag_kind : Kind Tag
-tag_kind = record { is_value = IsTag; text = tag_text }
+tag_kind = record { is_value = IsTag; text = tag_bytes }

@@ -3,7 +3,7 @@ ghost use Rattle.std.specs.Prelude.{◌≡◌, ◌≤◌, length, Err, IfOk, IfE
 ghost use Rattle.rds_names.specs.declared.fault.Fault.{Fault};
 ghost use Rattle.rds_names.specs.declared.fault.Fault.TheVariants.{Memory};
 ghost use Rattle.rds_bytes.specs.Reading.{Reads};
-ghost use Rattle.rds_codec.specs.Decoding.{Answers, Decodes};
+ghost use Rattle.rds_codec.specs.Decoding.{GivesOrMemory, Decodes};
 ghost use Rattle.rds_codec.specs.FormatWriting.{EncodesTabled};
 ghost use Rattle.rds_codec.specs.declared.limits.TheConstants.{LIMIT};
 ghost use Rattle.rds_questions.specs.Questions.{asker_at, question_kind, question_of, question_text};
@@ -82,7 +82,7 @@ fn read_asker(alloc: Global, bytes: &[u8]) -> Result<(Hello, &[u8]), Fault>
 /// those of a format.
 pub fn decode_question<S: DotSet>(alloc: Global, bytes: &[u8]) -> Result<Question<S>, Fault>
     ensures text { Decodes question_kind bytes.now result }
-    ensures asker { (e : Fault) → length bytes.now ≤ LIMIT → asker_at bytes.now ≡ Err e → Answers result (Err e) }
+    ensures asker { (e : Fault) → length bytes.now ≤ LIMIT → asker_at bytes.now ≡ Err e → GivesOrMemory result (Err e) }
 {
     if LIMIT < bytes.len() {
         return Err(Fault::TooLong);

@@ -3,7 +3,7 @@ ghost use Rattle.std.specs.Prelude.{◌≡◌, ◌↔◌, IsTrue, IfErr, IfOk};
 ghost use Rattle.rds_bytes.specs.Reading.{ReadsExactly, bytes_at};
 ghost use Rattle.rds_bytes.specs.Writing.{Adds};
 ghost use Rattle.rds_state.specs.Mark.{mark_of};
-ghost use Rattle.rds_questions.specs.Tags.{IsForkOf, IsTagOf, RefusesTag, tag_at, tag_text};
+ghost use Rattle.rds_questions.specs.Tags.{IsForkOf, IsTagOf, RefusesTag, tag_at, tag_bytes};
 
 use crate::questions::Question;
 use rds_bytes::{put_u64, read_u64};
@@ -64,7 +64,7 @@ fn put_hash(out: &mut Vec<u8>, hash: &[u8; 32]) -> Result<(), AllocError>
 
 /// Adds the text of a tag.
 pub fn put_tag(out: &mut Vec<u8>, tag: &Tag) -> Result<(), AllocError>
-    ensures { Adds out.old.items out.new.items (tag_text tag.now) result }
+    ensures { Adds out.old.items out.new.items (tag_bytes tag.now) result }
 {
     put_hash(out, &tag.hash)?;
     put_u64(out, tag.mark.high)?;

@@ -3,7 +3,7 @@ use Rattle.std.proofs.Common.{◌≡◌, ℕ, ◌≤◌, ◌<◌, ◌+◌, ◌-�
 use Rattle.std.proofs.lemmas.Bool.{cases_lt}
 use Rattle.std.proofs.lemmas.List.{drop_all, drop_at, nil_from_length, take_at, drop-take, length-drop}
 use Rattle.rds_state.specs.Fits.{ReplicaValue}
-use Rattle.rds_journal.specs.Appending.{appended, IsUnwritten}
+use Rattle.rds_journal.specs.Appending.{appended, IsUnappended}
 use Rattle.rds_journal.specs.Records.{IsBegun, IsPayload, IsTorn, record_text}
 use Rattle.rds_journal.proofs.Format.{no_text}
 use Rattle.rds_keep.specs.Changed.{ChangedValue, IsRecordOf}
@@ -102,7 +102,7 @@ module _ (file : List ℕ) (v : ReplicaValue) (layout : Layout) (stored : IsStor
     no_other = subst (λ (t : List ℕ). IsNoOther bytes t) (sym (behind_front part)) none;
   })
 
-  is_unwritten : (bytes left payload : List ℕ) → bytes ≡ record_text payload → IsPayload payload → IsUnwritten file layout.whole bytes (Some left) → IsBrokenOff file layout.whole bytes left
+  is_unwritten : (bytes left payload : List ℕ) → bytes ≡ record_text payload → IsPayload payload → IsUnappended file layout.whole bytes (Some left) → IsBrokenOff file layout.whole bytes left
   is_unwritten bytes left payload text short how = elim how [
     | inl back ↦ cut_back file v layout bytes left back.0 stored back.1 (is_some left (take back.0 file) back.2)
     | inr part ↦ written_part bytes left (take part.0 bytes) (is_some left (appended file layout.whole (take part.0 bytes)) part.2)

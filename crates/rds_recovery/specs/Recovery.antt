@@ -5,7 +5,7 @@ use Rattle.rds_names.specs.Roster.{Begins}
 use Rattle.rds_state.specs.Coordinates.{AtMost}
 use Rattle.rds_state.specs.Fits.{ReplicaValue}
 use Rattle.rds_state.specs.Value.{coordinates}
-use Rattle.rds_journal.specs.Appending.{appended, IsUnwritten, LeavesEnd}
+use Rattle.rds_journal.specs.Appending.{appended, IsUnappended, LeavesEnd}
 use Rattle.rds_journal.specs.Records.{IsBegun}
 use Rattle.rds_keep.specs.Changed.{ChangedValue, IsRecordOf}
 use Rattle.rds_keep.specs.Changes.{ChangeValue, IsChanged}
@@ -98,7 +98,7 @@ NoneIsMadeUp file change layout left =
 abbrev pub InOrderIsNoOther : List ℕ → ChangedValue → Layout → List ℕ → Type 0
 InOrderIsNoOther file change layout left =
     IsStored file change.before layout → IsRecordOf change
-    → IsUnwritten file layout.whole change.bytes (Some left) ⊎ (left ≡ appended file layout.whole change.bytes)
+    → IsUnappended file layout.whole change.bytes (Some left) ⊎ (left ≡ appended file layout.whole change.bytes)
     → IsBrokenOff file layout.whole change.bytes left
 
 -- Where they come in any order, it wants no more than that a whole record behind the others is the one.

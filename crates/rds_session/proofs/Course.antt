@@ -10,12 +10,12 @@ use Rattle.rds_session.specs.declared.talk.Stop.{Stop}
 use Rattle.rds_session.specs.declared.talk.Stop.TheVariants.{Refused, Left}
 use Rattle.rds_session.specs.declared.step.Ended.{Ended}
 use Rattle.rds_session.specs.declared.step.Ended.TheVariants.{Going, Done, Failed}
-use Rattle.rds_session.specs.Chunks.{start, Scan, More, Whole, Long, byte_scanned}
+use Rattle.rds_session.specs.Chunks.{start_of_chunks, Scan, More, Whole, Long, byte_scanned}
 use Rattle.rds_session.specs.Judging.{Awaited, ForHello, ForDigest, ForWhole, ForDelta, ForBye, Said, Greets, Learns, Shares, Misses, Receives, Finishes, Forks, verdict, replies_of}
 use Rattle.rds_state.specs.declared.mark.Mark.{Mark}
 use Rattle.rds_session.specs.Received.{Delivery}
 use Rattle.rds_session.specs.Sending.{sending}
-use Rattle.rds_session.specs.Session.{Standing, Sent, fresh, failure, then_more, when_going, after_sending, after_said, after_verdict, message_comes, after_scan, stay, byte_comes, run, opening, after_opening, cut_off, Heard, Nothing, So_far, All_of, heard_more, course, after_input, after_step}
+use Rattle.rds_session.specs.Session.{Standing, Sent, fresh, failure, then_more, when_going, after_sending, after_said, after_verdict, message_comes, after_scan, stay, byte_comes, run_bytes, opening, after_opening, cut_off, Heard, Nothing, So_far, All_of, heard_more, course, after_input, after_step}
 use Rattle.rds_session.specs.Steps as steps
 use Rattle.rds_session.specs.Steps.{piece_of, ReceivedOnTheWay, TakesNoMemory, StepTakesMemory, RunsOut, Steps, Continues, IsOver}
 use Rattle.rds_session.proofs.Accepting.{IsActFor, IsFor, accepted_suits}
@@ -130,17 +130,17 @@ message_follows s m = answered_follows s (verdict s.kept s.turn m) (accepted_sui
 scanned_follows : (s : Standing) (sc : Scan) → Follows s (after_scan s sc stay).0
 scanned_follows s (More u) = follows_same s (record s { under = u }) refl refl refl refl refl
 scanned_follows s (Whole m rest) =
-    let t = record s { under = start } in
+    let t = record s { under = start_of_chunks } in
     follows_then s t (message_comes t m).0 (follows_same s t refl refl refl refl refl) (message_follows t m)
 scanned_follows s Long = failed_follows s TooLong
 
-run_by : (e : Ended) (s : Standing) (p : Sent) (bs : List ℕ) → Follows s p.0 → Follows p.0 (run bs p.0).0 → Follows s (when_going {A = Sent} e (then_more p (run bs)) (s, [])).0
-run_by Going s p bs f g = follows_then s p.0 (run bs p.0).0 f g
+run_by : (e : Ended) (s : Standing) (p : Sent) (bs : List ℕ) → Follows s p.0 → Follows p.0 (run_bytes bs p.0).0 → Follows s (when_going {A = Sent} e (then_more p (run_bytes bs)) (s, [])).0
+run_by Going s p bs f g = follows_then s p.0 (run_bytes bs p.0).0 f g
 run_by Done s p bs f g = follows_same s s refl refl refl refl refl
 run_by (Failed x) s p bs f g = follows_same s s refl refl refl refl refl
 
-pub run_follows : (bs : List ℕ) (s : Standing) → Follows s (run bs s).0
-unfolding run
+pub run_follows : (bs : List ℕ) (s : Standing) → Follows s (run_bytes bs s).0
+unfolding run_bytes
 run_follows [] s = follows_same s s refl refl refl refl refl
 run_follows (b ∷ bs) s = run_by s.ended s (byte_comes s b) bs (scanned_follows s (byte_scanned s.under.place s.under.held b)) (run_follows bs (byte_comes s b).0)
 
@@ -171,10 +171,10 @@ unfolding course started
 course_follows side kept Nothing = inl refl
 course_follows side kept (So_far x) =
     let o = after_opening (fresh side kept) in
-    inr (follows_then (started side kept) o.0 (run x o.0).0 (opened_fresh side kept) (run_follows x o.0))
+    inr (follows_then (started side kept) o.0 (run_bytes x o.0).0 (opened_fresh side kept) (run_follows x o.0))
 course_follows side kept (All_of x) =
     let o = after_opening (fresh side kept) in
-    let r = run x o.0 in
+    let r = run_bytes x o.0 in
     inr (follows_then (started side kept) r.0 (cut_off r.0).0 (follows_then (started side kept) o.0 r.0 (opened_fresh side kept) (run_follows x o.0)) (cut_follows r.0))
 
 -- ---- one step more
@@ -222,17 +222,17 @@ unfolding course
 course_steps side kept Nothing (Some piece) = (unfold after_step in refl)
 course_steps side kept Nothing None =
     let o = after_opening (fresh side kept) in
-    (unfold after_step run in ap (λ (p : Sent). then_more p cut_off) (nothing_more o))
+    (unfold after_step run_bytes in ap (λ (p : Sent). then_more p cut_off) (nothing_more o))
 course_steps side kept (So_far x) (Some piece) =
     let o = after_opening (fresh side kept) in
-    let p = then_more o (run x) in
-    let one : then_more o (run (x ++ piece)) ≡ then_more p (run piece) = then_same o (run (x ++ piece)) (λ s. then_more (run x s) (run piece)) (run-append x piece o.0) ∙ ap (λ (t : List ℕ). ((run piece (run x o.0).0).0, t)) (sym (append_assoc o.1 (run x o.0).1 (run piece (run x o.0).0).1)) in
-    one ∙ sym (then_same p (step_on (Some piece)) (run piece) (stepped_begun p.0 (Some piece) (course_begun side kept x)))
+    let p = then_more o (run_bytes x) in
+    let one : then_more o (run_bytes (x ++ piece)) ≡ then_more p (run_bytes piece) = then_same o (run_bytes (x ++ piece)) (λ s. then_more (run_bytes x s) (run_bytes piece)) (run-append x piece o.0) ∙ ap (λ (t : List ℕ). ((run_bytes piece (run_bytes x o.0).0).0, t)) (sym (append_assoc o.1 (run_bytes x o.0).1 (run_bytes piece (run_bytes x o.0).0).1)) in
+    one ∙ sym (then_same p (step_on (Some piece)) (run_bytes piece) (stepped_begun p.0 (Some piece) (course_begun side kept x)))
 course_steps side kept (So_far x) None =
-    let p = then_more (after_opening (fresh side kept)) (run x) in
+    let p = then_more (after_opening (fresh side kept)) (run_bytes x) in
     sym (then_same p (step_on None) cut_off (stepped_begun p.0 None (course_begun side kept x)))
 course_steps side kept (All_of x) i =
-    let r = then_more (after_opening (fresh side kept)) (run x) in
+    let r = then_more (after_opening (fresh side kept)) (run_bytes x) in
     let p = then_more r cut_off in
     sym (then_same p (step_on i) (λ s. (s, [])) (stepped_over p.0 i (over_cut r.0.ended r.0 refl)) ∙ nothing_more p)
 
@@ -266,12 +266,12 @@ opening_keeps s = elim s.begun as (λ b. ((cond b (s, []) (after_sending (record
 ]
 
 -- what was received on the way is received in the end, or nothing was
-on_the_way : (o : Standing) (piece : List ℕ) (received : Option Delivery) → IsOrderly o → ReceivedOnTheWay o piece received → (received ≡ None) ⊎ (received ≡ (run piece o).0.received)
+on_the_way : (o : Standing) (piece : List ℕ) (received : Option Delivery) → IsOrderly o → ReceivedOnTheWay o piece received → (received ≡ None) ⊎ (received ≡ (run_bytes piece o).0.received)
 on_the_way o piece received orderly w =
     let front = w.0 in
     let rest = w.1 in
-    let mid = (run front o).0 in
-    let whole : run piece o ≡ then_more (run front o) (run rest) = ap (λ (x : List ℕ). run x o) w.2 ∙ run-append front rest o in
+    let mid = (run_bytes front o).0 in
+    let whole : run_bytes piece o ≡ then_more (run_bytes front o) (run_bytes rest) = ap (λ (x : List ℕ). run_bytes x o) w.2 ∙ run-append front rest o in
     elim ((run_follows rest mid).received ((run_follows front o).orderly orderly)) [
       | inl none ↦ inl (w.3 ∙ none)
       | inr same ↦ inr (w.3 ∙ sym same ∙ ap (λ (p : Sent). p.0.received) (sym whole))
@@ -286,7 +286,7 @@ pub cut_keeps : (s : Standing) → (cut_off s).0.received ≡ s.received
 cut_keeps s = cut_keeps_by s.ended s
 
 by_input : (o : Standing) (i : Option (List ℕ)) (received : Option Delivery) → IsOrderly o → ReceivedOnTheWay o (piece_of i) received → (received ≡ None) ⊎ (received ≡ (after_input i o).0.received)
-unfolding run
+unfolding run_bytes
 by_input o (Some piece) received orderly w = on_the_way o piece received orderly w
 by_input o None received orderly w = elim (on_the_way o [] received orderly w) [
   | inl none ↦ inl none
@@ -361,7 +361,7 @@ ends old new i sent steps begun none =
 
 -- nothing was taken yet, so what was received stayed
 pub at_first : (old : Standing) (i : Option (List ℕ)) (received : Option Delivery) → received ≡ old.received → ReceivedOnTheWay (after_opening old).0 (piece_of i) received
-unfolding run
+unfolding run_bytes
 at_first old i received e = ([], piece_of i, refl, e ∙ sym (opening_keeps old).0)
 
 -- a client begins, which takes memory
@@ -390,8 +390,8 @@ unfolding course
 received_stays side kept Nothing i = inl refl
 received_stays side kept (So_far x) (Some y) =
     let o = after_opening (fresh side kept) in
-    let mid = (run x o.0).0 in
-    let e : run (x ++ y) o.0 ≡ then_more (run x o.0) (run y) = run-append x y o.0 in
+    let mid = (run_bytes x o.0).0 in
+    let e : run_bytes (x ++ y) o.0 ≡ then_more (run_bytes x o.0) (run_bytes y) = run-append x y o.0 in
     elim ((run_follows y mid).received (course_orderly side kept (So_far x))) [
       | inl none ↦ inl none
       | inr same ↦ inr (ap (λ (p : Sent). p.0.received) e ∙ same)

@@ -5,7 +5,7 @@ use Rattle.rds_delta.proofs.LeastLaws.{compatible_sym}
 use Rattle.rds_state.specs.Fits.{ReplicaValue}
 use Rattle.rds_state.specs.Mark.{mark_of}
 use Rattle.rds_state.specs.Value.{coordinates}
-use Rattle.rds_life.specs.Life.{AreCompatible}
+use Rattle.rds_life.specs.Life.{LivesAreCompatible}
 use Rattle.rds_session.proofs.Joined.{both_hold}
 use Rattle.rds_answers.proofs.MarkHalves.{mark_is_mark}
 use Rattle.rds_session.proofs.MarkTexts.{same_decides}
@@ -25,7 +25,7 @@ are_alike Three a b c d = mark_is_mark (held_with c d)
 are_alike Four a b c d = mark_is_mark (held_with c d)
 are_alike Five a b c d = mark_is_mark (held_with c d)
 
-agreed : (own peer : ReplicaValue) → AreCompatible own.state.lives peer.state.lives
+agreed : (own peer : ReplicaValue) → LivesAreCompatible own.state.lives peer.state.lives
     → cond (same_mark (mark_of (held_with own peer)) (mark_of (held_with peer own))) Finishes Forks ≡ Finishes
 agreed own peer agree =
     ap (λ (same : Bool). cond same Finishes Forks) ((same_decides (mark_of (held_with own peer)) (mark_of (held_with peer own))).1 (ap mark_of (both_hold own peer agree)))

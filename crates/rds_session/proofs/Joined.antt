@@ -14,7 +14,7 @@ use Rattle.rds_delta.proofs.LeastLaws.{grown_delta, least_above}
 use Rattle.rds_delta.specs.Digested.{digest_of}
 use Rattle.rds_delta.specs.Least.{IsAbove, least}
 use Rattle.rds_delta.specs.Ranks.{life_rank, ranks}
-use Rattle.rds_life.specs.Life.{Life, Live, Dead, AreCompatible, join_life}
+use Rattle.rds_life.specs.Life.{Life, Live, Dead, LivesAreCompatible, join_life}
 use Rattle.rds_state.proofs.JoinLaws.{commutative, reflexive, same_coordinates, same_value}
 use Rattle.rds_state.specs.Coordinates.{Coordinates, join}
 use Rattle.rds_state.specs.Fits.{ReplicaValue}
@@ -94,7 +94,7 @@ held_is own peer =
     ∙ grown_delta (coordinates peer.state) (coordinates own.state) (coordinates own.state) (reflexive (coordinates own.state))
 
 -- so both hold one state, where no dot is live in both with different entries
-pub both_hold : (a b : ReplicaValue) → AreCompatible a.state.lives b.state.lives → held_with a b ≡ held_with b a
+pub both_hold : (a b : ReplicaValue) → LivesAreCompatible a.state.lives b.state.lives → held_with a b ≡ held_with b a
 both_hold a b agree =
     same_value (held_with a b) (held_with b a)
     (held_is a b ∙ commutative (coordinates a.state) (coordinates b.state) (record { each_dot = agree.each_dot }) ∙ sym (held_is b a))

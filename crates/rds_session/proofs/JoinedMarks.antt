@@ -14,7 +14,7 @@ use Rattle.rds_dots.specs.declared.dot.Dot.{Dot}
 use Rattle.rds_dots.specs.Ascending.{ascends, is_above}
 use Rattle.rds_dots.specs.Dots.{Dots, dot_cmp}
 use Rattle.rds_dots.specs.Order.{dots_total}
-use Rattle.rds_dots.specs.Sets.{same_dot}
+use Rattle.rds_dots.specs.Sets.{tied_dots_are_one}
 use Rattle.rds_counts.proofs.DrawnLemmas.{drawn_are, drawn_number}
 use Rattle.rds_counts.proofs.SameCounts.{same_counts}
 use Rattle.rds_counts.specs.declared.row.CountRow.{CountRow}
@@ -58,7 +58,7 @@ over_other false e first later none = refl
 
 -- no later row is of the first one's dot
 none_later : (d : Dot) (r : Dot × Entry) (new : Rows) → list_all (is_above r.0) (keys new) ≡ true → eq_by_cmp dot_cmp d r.0 ≡ true → map.find dot_cmp d new ≡ None
-none_later d r new above same = ap (λ q. map.find dot_cmp q new) (same_dot d r.0 same) ∙ find_above r.0 new above
+none_later d r new above same = ap (λ q. map.find dot_cmp q new) (tied_dots_are_one d r.0 same) ∙ find_above r.0 new above
 
 find-all_put : (new rows : Rows) → ascends (keys new) ≡ true → (d : Dot) → map.find dot_cmp d (all_put new rows) ≡ over (map.find dot_cmp d new) (map.find dot_cmp d rows)
 find-all_put [] rows rise d = refl

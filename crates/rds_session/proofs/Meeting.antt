@@ -25,7 +25,7 @@ use Rattle.rds_session.specs.ByMessages.{talk}
 use Rattle.rds_session.specs.Messages.{hello_message, behind_message, digest_message, digest_said, hash_message, delta_message, done_message}
 use Rattle.rds_session.specs.Marked.{same_mark}
 use Rattle.rds_session.specs.Received.{Delivery}
-use Rattle.rds_session.specs.Session.{Standing, Sent, fresh, then_more, after_said, ended_after, received_after, run, opening, after_opening, So_far, course}
+use Rattle.rds_session.specs.Session.{Standing, Sent, fresh, then_more, after_said, ended_after, received_after, run_bytes, opening, after_opening, So_far, course}
 use Rattle.rds_session.specs.Steps.{IsOver}
 use Rattle.rds_session.specs.Versions.{delta_format, says_hashes}
 use Rattle.rds_session.specs.Stream.{Splits}
@@ -371,18 +371,18 @@ server_opens : (b : ReplicaValue) → after_opening (fresh Server b) ≡ (server
 server_opens b = opened_by (fresh Server b) [] refl refl tt
 
 -- what is received of a beginning is nothing, or what is received of the whole
-received_of : (s : Standing) (x w : List ℕ) (d : Delivery) → IsOrderly s → IsBeginningOf x w → (run w s).0.received ≡ Some d → ((run x s).0.received ≡ None) ⊎ ((run x s).0.received ≡ Some d)
+received_of : (s : Standing) (x w : List ℕ) (d : Delivery) → IsOrderly s → IsBeginningOf x w → (run_bytes w s).0.received ≡ Some d → ((run_bytes x s).0.received ≡ None) ⊎ ((run_bytes x s).0.received ≡ Some d)
 received_of s x w d orderly p whole =
-    let mid = (run x s).0 in
-    let e : run w s ≡ then_more (run x s) (run p.0) = ap (λ (t : List ℕ). run t s) p.1 ∙ run-append x p.0 s in
+    let mid = (run_bytes x s).0 in
+    let e : run_bytes w s ≡ then_more (run_bytes x s) (run_bytes p.0) = ap (λ (t : List ℕ). run_bytes t s) p.1 ∙ run-append x p.0 s in
     elim ((run_follows p.0 mid).received ((run_follows x s).orderly orderly)) [
       | inl none ↦ inl none
       | inr same ↦ inr (sym same ∙ ap (λ (q : Sent). q.0.received) (sym e) ∙ whole)
     ]
 
-server_course : (b : ReplicaValue) (y : List ℕ) → course Server b (So_far y) ≡ then_more (server b, []) (run y)
+server_course : (b : ReplicaValue) (y : List ℕ) → course Server b (So_far y) ≡ then_more (server b, []) (run_bytes y)
 unfolding course
-server_course b y = ap (λ (p : Sent). then_more p (run y)) (server_opens b)
+server_course b y = ap (λ (p : Sent). then_more p (run_bytes y)) (server_opens b)
 
 its_delta : (peer own : ReplicaValue) (received : Option Delivery) → (received ≡ None) ⊎ (received ≡ Some (least_state peer.state (digest_of own.state), longer_than own.roster peer.roster)) → IsItsDelta peer own received
 its_delta peer own received h = elim h [ inl none ↦ inl none | inr is ↦ inr (its_least peer own received is) ]
@@ -392,14 +392,14 @@ received_done : (s : Standing) (version : Version) (own peer : ReplicaValue) →
 received_done s version own peer = received_last (last_mark version own peer) (last_mark version peer own) _
 
 module _ (version : Version) (a b : ReplicaValue) (by : Played version a b) where
-  client_course : (x : List ℕ) → course (Client version) a (So_far x) ≡ then_more (client version a, texts by.opening_is) (run x)
+  client_course : (x : List ℕ) → course (Client version) a (So_far x) ≡ then_more (client version a, texts by.opening_is) (run_bytes x)
   unfolding course
-  client_course x = ap (λ (p : Sent). then_more p (run x)) (opened_by (fresh (Client version) a) by.opening_is refl by.opens by.fit)
+  client_course x = ap (λ (p : Sent). then_more p (run_bytes x)) (opened_by (fresh (Client version) a) by.opening_is refl by.opens by.fit)
 
-  client_whole : (run (texts (answers by.turns)) (client version a)).0 ≡ finished (client version a) version a b
+  client_whole : (run_bytes (texts (answers by.turns)) (client version a)).0 ≡ finished (client version a) version a b
   client_whole = client_comes by.turns (client version a) (server b) by.opening_is by.play ∙ by.client_ends
 
-  server_whole : (run (texts (words by.opening_is by.turns)) (server b)).0 ≡ finished (server b) version b a
+  server_whole : (run_bytes (texts (words by.opening_is by.turns)) (server b)).0 ≡ finished (server b) version b a
   server_whole = server_comes by.turns (client version a) (server b) by.opening_is by.play ∙ by.server_ends
 
   has_received : (x y : List ℕ) → Hear version a b x y → HaveReceived version a b x y
@@ -427,9 +427,9 @@ module _ (version : Version) (a b : ReplicaValue) (by : Played version a b) wher
       (all.client ∙ ap (λ (p : Sent). p.1) (server_course b y))
       (all.server ∙ ap (λ (p : Sent). p.1) (client_course x)) in
       let client_end : (course (Client version) a (So_far x)).0 ≡ finished (client version a) version a b =
-      ap (λ (p : Sent). p.0) (client_course x) ∙ ap (λ (t : List ℕ). (run t (client version a)).0) heard.0 ∙ client_whole in
+      ap (λ (p : Sent). p.0) (client_course x) ∙ ap (λ (t : List ℕ). (run_bytes t (client version a)).0) heard.0 ∙ client_whole in
       let server_end : (course Server b (So_far y)).0 ≡ finished (server b) version b a =
-      ap (λ (p : Sent). p.0) (server_course b y) ∙ ap (λ (t : List ℕ). (run t (server b)).0) heard.1 ∙ server_whole in
+      ap (λ (p : Sent). p.0) (server_course b y) ∙ ap (λ (t : List ℕ). (run_bytes t (server b)).0) heard.1 ∙ server_whole in
       record {
         client = ap (λ (s : Standing). s.ended) client_end ∙ first;
         client_has = its_least b a _ (ap (λ (s : Standing). s.received) client_end ∙ received_done (client version a) version a b);
@@ -438,13 +438,13 @@ module _ (version : Version) (a b : ReplicaValue) (by : Played version a b) wher
       }
 
   served : (x : List ℕ) → AgreeWhereTold version a b → Splits x (client_words version a b) [] → IsServed version a b x
-  unfolding run
+  unfolding run_bytes
   served x agree splits =
       let talks = server_talks by.turns (client version a) (server b) by.opening_is by.play in
       let is : course Server b (So_far x) ≡ (finished (server b) version b a, texts (server_words version b a)) =
       by_messages Server b x (client_words version a b) [] splits
-      ∙ ap (λ (o : Sent). then_more (then_more o (talk (client_words version a b))) (run [])) (server_opens b)
-      ∙ ap (λ (ms : List (List ℕ)). then_more (talk ms (server b)) (run [])) (sym by.client_said)
+      ∙ ap (λ (o : Sent). then_more (then_more o (talk (client_words version a b))) (run_bytes [])) (server_opens b)
+      ∙ ap (λ (ms : List (List ℕ)). then_more (talk ms (server b)) (run_bytes [])) (sym by.client_said)
       ∙ ap (λ (p : Sent). (p.0, p.1 ++ [])) talks
       ∙ ap (λ (s : Standing). (s, texts (answers by.turns) ++ [])) by.server_ends
       ∙ ap (λ (t : List ℕ). (finished (server b) version b a, t)) (append-nil (texts (answers by.turns)) ∙ ap texts by.server_said) in

@@ -6,7 +6,7 @@ use Rattle.std.proofs.lemmas.List.{append-nil, take-append-drop, length-take}
 use Rattle.std.proofs.lemmas.List.Concat.{flat_map-cons}
 use Rattle.rds_session.specs.declared.chunks.TheConstants.{MESSAGE_LIMIT}
 use Rattle.rds_session.specs.declared.chunks.Place.TheVariants.{First}
-use Rattle.rds_session.specs.Chunks.{Whole, Long, start, scan, chunk_text, message_text, chunk_most, cut, message_in_chunks}
+use Rattle.rds_session.specs.Chunks.{Whole, Long, start_of_chunks, scan, chunk_text, message_text, chunk_most, cut_in_chunks, message_in_chunks}
 use Rattle.rds_session.specs.Stream.{IsChunk, contents_of}
 use Rattle.rds_session.proofs.Scans.{at, at-place, scan_run, scan_long}
 
@@ -46,9 +46,9 @@ unfolding scan
 scan_end more held = refl
 
 -- a message comes, in any chunks
-pub scan_message : (cs : List (List ℕ)) (more : List ℕ) → AllByRecursion IsChunk cs → length (contents_of cs) ≤ MESSAGE_LIMIT → scan (message_text cs ++ more) start ≡ Whole (contents_of cs) more
+pub scan_message : (cs : List (List ℕ)) (more : List ℕ) → AllByRecursion IsChunk cs → length (contents_of cs) ≤ MESSAGE_LIMIT → scan (message_text cs ++ more) start_of_chunks ≡ Whole (contents_of cs) more
 scan_message cs more h room =
-    ap (λ (t : List ℕ). scan t start) (append_assoc (flat_map chunk_text cs) (0 ∷ 0 ∷ []) more)
+    ap (λ (t : List ℕ). scan t start_of_chunks) (append_assoc (flat_map chunk_text cs) (0 ∷ 0 ∷ []) more)
     ∙ scan_chunks cs (0 ∷ 0 ∷ more) [] h (omega arith) ∙ scan_end more (contents_of cs)
 
 -- a message that passes the limit, in any chunks
@@ -68,12 +68,12 @@ scan_message_long (c ∷ cs) more held h fits long =
 
 -- ---- the sender's own cutting
 
-cut_chunks : (n : ℕ) (m : List ℕ) → AllByRecursion IsChunk (cut n m)
+cut_chunks : (n : ℕ) (m : List ℕ) → AllByRecursion IsChunk (cut_in_chunks n m)
 cut_chunks zero m = tt
 cut_chunks (suc n) [] = tt
 cut_chunks (suc n) (b ∷ m) = ((omega (arith, length-take chunk_most (b ∷ m)), omega (arith, length-take chunk_most (b ∷ m))), cut_chunks n (drop chunk_most (b ∷ m)))
 
-cut_joined : (n : ℕ) (m : List ℕ) → length m ≤ n → contents_of (cut n m) ≡ m
+cut_joined : (n : ℕ) (m : List ℕ) → length m ≤ n → contents_of (cut_in_chunks n m) ≡ m
 cut_joined zero [] h = refl
 cut_joined zero (b ∷ m) h = absurd (omega arith)
 cut_joined (suc n) [] h = refl
@@ -81,8 +81,8 @@ cut_joined (suc n) (b ∷ m) h =
     let rest = cut_joined n (drop chunk_most (b ∷ m)) (omega (arith, length-drop chunk_most (b ∷ m))) in
     ap (λ (t : List ℕ). take chunk_most (b ∷ m) ++ t) rest ∙ take-append-drop chunk_most (b ∷ m)
 
-pub scan_spelled : (m more : List ℕ) → length m ≤ MESSAGE_LIMIT → scan (message_in_chunks m ++ more) start ≡ Whole m more
+pub scan_spelled : (m more : List ℕ) → length m ≤ MESSAGE_LIMIT → scan (message_in_chunks m ++ more) start_of_chunks ≡ Whole m more
 unfolding message_in_chunks
 scan_spelled m more room =
     let j = cut_joined (length m) m (omega arith) in
-    scan_message (cut (length m) m) more (cut_chunks (length m) m) (omega (arith, ap length j)) ∙ ap (λ (t : List ℕ). Whole t more) j
+    scan_message (cut_in_chunks (length m) m) more (cut_chunks (length m) m) (omega (arith, ap length j)) ∙ ap (λ (t : List ℕ). Whole t more) j

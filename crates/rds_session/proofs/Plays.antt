@@ -7,12 +7,12 @@ use Rattle.rds_names.specs.declared.fault.Fault.TheVariants.{TooLong}
 use Rattle.rds_session.specs.declared.chunks.TheConstants.{MESSAGE_LIMIT}
 use Rattle.rds_session.specs.declared.step.Ended.{Ended}
 use Rattle.rds_session.specs.declared.step.Ended.TheVariants.{Going}
-use Rattle.rds_session.specs.Chunks.{Under, start, Scan, Whole, scan, message_in_chunks}
+use Rattle.rds_session.specs.Chunks.{Under, start_of_chunks, Scan, Whole, scan, message_in_chunks}
 use Rattle.rds_session.specs.Judging.{Said, verdict, replies_of}
 use Rattle.rds_session.specs.ByMessages.{after_message, talk}
 use Rattle.rds_session.specs.Meeting.{IsBeginningOf}
 use Rattle.rds_session.specs.Sending.{sending, then_sent}
-use Rattle.rds_session.specs.Session.{Standing, Sent, then_more, when_going, refuses, after_sending, after_said, after_verdict, message_comes, after_scan, run, opening, after_opening}
+use Rattle.rds_session.specs.Session.{Standing, Sent, then_more, when_going, refuses, after_sending, after_said, after_verdict, message_comes, after_scan, run_bytes, opening, after_opening}
 use Rattle.rds_session.specs.Steps.{IsOver}
 use Rattle.rds_session.proofs.Messages.{scan_spelled}
 use Rattle.rds_session.proofs.Runs.{run-append, run-scan, run_over}
@@ -53,12 +53,12 @@ comes s m act ms ok replies fit =
     let sent : sending (replies_of s.side s.kept s.turn act) ≡ (texts ms, true) = ap sending replies ∙ all_sent ms fit in
     ap (after_verdict s) ok ∙ ap (after_sending (after_said s act)) sent
 
-hears : (s : Standing) (m more : List ℕ) (act : Said) (ms : List (List ℕ)) → s.ended ≡ Going → s.under ≡ start → Fits m → verdict s.kept s.turn m ≡ Ok act
-    → replies_of s.side s.kept s.turn act ≡ ms → AllByRecursion Fits ms → run (message_in_chunks m ++ more) s ≡ then_more (after_said s act, texts ms) (run more)
+hears : (s : Standing) (m more : List ℕ) (act : Said) (ms : List (List ℕ)) → s.ended ≡ Going → s.under ≡ start_of_chunks → Fits m → verdict s.kept s.turn m ≡ Ok act
+    → replies_of s.side s.kept s.turn act ≡ ms → AllByRecursion Fits ms → run_bytes (message_in_chunks m ++ more) s ≡ then_more (after_said s act, texts ms) (run_bytes more)
 hears s m more act ms going at room ok replies fit =
     let sc : scan (message_in_chunks m ++ more) s.under ≡ Whole m more = ap (scan (message_in_chunks m ++ more)) at ∙ scan_spelled m more room in
-    let here : record s { under = start } ≡ s = ap (λ (u : Under). record s { under = u }) (sym at) in
-    run-scan (message_in_chunks m ++ more) s going ∙ ap (λ (x : Scan). after_scan s x run) sc ∙ ap (λ (t : Standing). then_more (message_comes t m) (run more)) here ∙ ap (λ (p : Sent). then_more p (run more)) (comes s m act ms ok replies fit)
+    let here : record s { under = start_of_chunks } ≡ s = ap (λ (u : Under). record s { under = u }) (sym at) in
+    run-scan (message_in_chunks m ++ more) s going ∙ ap (λ (x : Scan). after_scan s x run_bytes) sc ∙ ap (λ (t : Standing). then_more (message_comes t m) (run_bytes more)) here ∙ ap (λ (p : Sent). then_more p (run_bytes more)) (comes s m act ms ok replies fit)
 
 -- the same of messages, however they are cut
 talked : (s : Standing) (m : List ℕ) (more : List (List ℕ)) (act : Said) (ms : List (List ℕ)) → s.ended ≡ Going → Fits m → verdict s.kept s.turn m ≡ Ok act
@@ -73,13 +73,13 @@ talked s m more act ms going room ok replies fit =
 
 -- who hears these messages comes to a standing, and says these
 pub record Talks (s : Standing) (ms : List (List ℕ)) (t : Standing) (out : List (List ℕ)) : Type 0 where
-  pub runs : (more : List ℕ) → run (texts ms ++ more) s ≡ then_more (t, texts out) (run more)
+  pub runs : (more : List ℕ) → run_bytes (texts ms ++ more) s ≡ then_more (t, texts out) (run_bytes more)
   pub talks : (more : List (List ℕ)) → talk (ms ++ more) s ≡ then_more (t, texts out) (talk more)
 
-pub one_talks : (s : Standing) (m : List ℕ) (act : Said) (out : List (List ℕ)) → s.ended ≡ Going → s.under ≡ start → Fits m → verdict s.kept s.turn m ≡ Ok act
+pub one_talks : (s : Standing) (m : List ℕ) (act : Said) (out : List (List ℕ)) → s.ended ≡ Going → s.under ≡ start_of_chunks → Fits m → verdict s.kept s.turn m ≡ Ok act
     → replies_of s.side s.kept s.turn act ≡ out → AllByRecursion Fits out → Talks s (m ∷ []) (after_said s act) out
 one_talks s m act out going at room ok replies fit = record {
-  runs = λ more. ap (λ (t : List ℕ). run (t ++ more) s) (append-nil (message_in_chunks m)) ∙ hears s m more act out going at room ok replies fit;
+  runs = λ more. ap (λ (t : List ℕ). run_bytes (t ++ more) s) (append-nil (message_in_chunks m)) ∙ hears s m more act out going at room ok replies fit;
   talks = λ more. talked s m more act out going room ok replies fit;
 }
 
@@ -91,9 +91,9 @@ said_then out put t said =
 pub talks_then : (s t u : Standing) (ms ns out put : List (List ℕ)) → Talks s ms t out → Talks t ns u put → Talks s (ms ++ ns) u (out ++ put)
 talks_then s t u ms ns out put p q = record {
   runs = λ more.
-      ap (λ (x : List ℕ). run (x ++ more) s) (texts-append ms ns) ∙ ap (λ (x : List ℕ). run x s) (append_assoc (texts ms) (texts ns) more) ∙ p.runs (texts ns ++ more)
+      ap (λ (x : List ℕ). run_bytes (x ++ more) s) (texts-append ms ns) ∙ ap (λ (x : List ℕ). run_bytes x s) (append_assoc (texts ms) (texts ns) more) ∙ p.runs (texts ns ++ more)
       ∙ ap (λ (r : Sent). (r.0, texts out ++ r.1)) (q.runs more)
-      ∙ said_then out put (run more u).0 (run more u).1;
+      ∙ said_then out put (run_bytes more u).0 (run_bytes more u).1;
   talks = λ more.
       ap (λ (x : List (List ℕ)). talk x s) (append_assoc ms ns more) ∙ p.talks (ns ++ more)
       ∙ ap (λ (r : Sent). (r.0, texts out ++ r.1)) (q.talks more)
@@ -104,7 +104,7 @@ talks_then s t u ms ns out put p q = record {
 
 -- what a standing answers to bytes
 unfoldable pub says : Standing → List ℕ → List ℕ
-says s x = (run x s).1
+says s x = (run_bytes x s).1
 
 cases_begin : (x u v : List ℕ) → IsBeginningOf x (u ++ v) → IsBeginningOf x u ⊎ ((more : List ℕ) × (x ≡ u ++ more) × IsBeginningOf more v)
 cases_begin x [] v h = inr (x, refl, h)
@@ -123,7 +123,7 @@ begin_trans x y z p q = (p.0 ++ q.0, q.1 ∙ ap (λ (t : List ℕ). t ++ q.0) p.
 -- who hears a beginning says a beginning
 says_begin : (s : Standing) (x y : List ℕ) → IsBeginningOf x y → IsBeginningOf (says s x) (says s y)
 unfolding says
-says_begin s x y h = (says (run x s).0 h.0, ap (λ (t : List ℕ). (run t s).1) h.1 ∙ ap (λ (p : Sent). p.1) (run-append x h.0 s))
+says_begin s x y h = (says (run_bytes x s).0 h.0, ap (λ (t : List ℕ). (run_bytes t s).1) h.1 ∙ ap (λ (p : Sent). p.1) (run-append x h.0 s))
 
 begin_more : (u x y : List ℕ) → IsBeginningOf x y → IsBeginningOf (u ++ x) (u ++ y)
 begin_more u x y h = (h.0, ap (λ (t : List ℕ). u ++ t) h.1 ∙ sym (append_assoc u x h.0))
@@ -141,7 +141,7 @@ unfolding says
 says_over s x over = ap (λ (p : Sent). p.1) (run_over x s over)
 
 says_none : (s : Standing) → says s [] ≡ []
-unfolding says run
+unfolding says run_bytes
 says_none s = refl
 
 says_after : (s t : Standing) (ms out : List (List ℕ)) (more : List ℕ) → Talks s ms t out → says s (texts ms ++ more) ≡ texts out ++ says t more
@@ -245,18 +245,18 @@ whole (t ∷ ts) c s said x y play p q =
       q ∙ ap (λ (z : List ℕ). texts said ++ z) rest.1 ∙ sym (texts-append said (words t.words ts)),
     )
 
-runs_to : (s t u : Standing) (ms more out : List (List ℕ)) → Talks s ms t out → (run (texts more) t).0 ≡ u → (run (texts (ms ++ more)) s).0 ≡ u
-runs_to s t u ms more out h is = ap (λ (x : List ℕ). (run x s).0) (texts-append ms more) ∙ ap (λ (p : Sent). p.0) (h.runs (texts more)) ∙ is
+runs_to : (s t u : Standing) (ms more out : List (List ℕ)) → Talks s ms t out → (run_bytes (texts more) t).0 ≡ u → (run_bytes (texts (ms ++ more)) s).0 ≡ u
+runs_to s t u ms more out h is = ap (λ (x : List ℕ). (run_bytes x s).0) (texts-append ms more) ∙ ap (λ (p : Sent). p.0) (h.runs (texts more)) ∙ is
 
 -- who hears all comes to its last standing
-pub client_comes : (ts : List Turn) (c s : Standing) (said : List (List ℕ)) → IsPlay c s said ts → (run (texts (answers ts)) c).0 ≡ client_at c ts
-unfolding run
+pub client_comes : (ts : List Turn) (c s : Standing) (said : List (List ℕ)) → IsPlay c s said ts → (run_bytes (texts (answers ts)) c).0 ≡ client_at c ts
+unfolding run_bytes
 client_comes [] c s said play = refl
 client_comes (t ∷ ts) c s said play = runs_to c t.client (client_at t.client ts) t.answer (answers ts) t.words play.1.0 (client_comes ts t.client t.server t.words play.1.1)
 
-pub server_comes : (ts : List Turn) (c s : Standing) (said : List (List ℕ)) → IsPlay c s said ts → (run (texts (words said ts)) s).0 ≡ server_at s ts
-unfolding run
-server_comes [] c s said play = ap (λ (ms : List (List ℕ)). (run (texts ms) s).0) play.0
+pub server_comes : (ts : List Turn) (c s : Standing) (said : List (List ℕ)) → IsPlay c s said ts → (run_bytes (texts (words said ts)) s).0 ≡ server_at s ts
+unfolding run_bytes
+server_comes [] c s said play = ap (λ (ms : List (List ℕ)). (run_bytes (texts ms) s).0) play.0
 server_comes (t ∷ ts) c s said play = runs_to s t.server (server_at t.server ts) said (words t.words ts) t.answer play.0 (server_comes ts t.client t.server t.words play.1.1)
 
 -- however it was cut

@@ -5,9 +5,9 @@ use Rattle.rds_names.specs.declared.fault.Fault.{Fault}
 use Rattle.rds_names.specs.declared.fault.Fault.TheVariants.{TooLong}
 use Rattle.rds_session.specs.declared.step.Ended.{Ended}
 use Rattle.rds_session.specs.declared.step.Ended.TheVariants.{Going, Done, Failed}
-use Rattle.rds_session.specs.Chunks.{Under, start, message_in_chunks, Scan, More, Whole, Long, byte_scanned, scan_on, scan}
+use Rattle.rds_session.specs.Chunks.{Under, start_of_chunks, message_in_chunks, Scan, More, Whole, Long, byte_scanned, scan_on, scan}
 use Rattle.rds_session.specs.Messages.{bye_message, code_of}
-use Rattle.rds_session.specs.Session.{Standing, Sent, then_more, when_going, failure, refuses, message_comes, after_scan, stay, byte_comes, run}
+use Rattle.rds_session.specs.Session.{Standing, Sent, then_more, when_going, failure, refuses, message_comes, after_scan, stay, byte_comes, run_bytes}
 use Rattle.rds_session.specs.Steps.{Ran, IsOver}
 
 pub over_stays : {A : Type 0} (e : Ended) (x y : A) → IsOver e → when_going e x y ≡ y
@@ -16,10 +16,10 @@ over_stays Done x y h = refl
 over_stays (Failed f) x y h = refl
 
 -- after the end nothing changes
-pub run_over : (bs : List ℕ) (s : Standing) → IsOver s.ended → run bs s ≡ (s, [])
-unfolding run
+pub run_over : (bs : List ℕ) (s : Standing) → IsOver s.ended → run_bytes bs s ≡ (s, [])
+unfolding run_bytes
 run_over [] s h = refl
-run_over (b ∷ bs) s h = over_stays s.ended (then_more (byte_comes s b) (run bs)) (s, []) h
+run_over (b ∷ bs) s h = over_stays s.ended (then_more (byte_comes s b) (run_bytes bs)) (s, []) h
 
 pub then_same : (p : Sent) (go to : Standing → Sent) → go p.0 ≡ to p.0 → then_more p go ≡ then_more p to
 then_same p go to e = ap (λ (q : Sent). (q.0, p.1 ++ q.1)) e
@@ -27,15 +27,15 @@ then_same p go to e = ap (λ (q : Sent). (q.0, p.1 ++ q.1)) e
 then_assoc : (p : Sent) (go to : Standing → Sent) → then_more (then_more p go) to ≡ then_more p (λ s. then_more (go s) to)
 then_assoc p go to = ap (λ (x : List ℕ). ((to (go p.0).0).0, x)) (append_assoc p.1 (go p.0).1 (to (go p.0).0).1)
 
-append_by : (e : Ended) (p : Sent) (bs y : List ℕ) (s : Standing) → s.ended ≡ e → run (bs ++ y) p.0 ≡ then_more (run bs p.0) (run y)
-    → when_going e (then_more p (run (bs ++ y))) (s, []) ≡ then_more (when_going e (then_more p (run bs)) (s, [])) (run y)
-append_by Going p bs y s is so_far = then_same p (run (bs ++ y)) (λ t. then_more (run bs t) (run y)) so_far ∙ sym (then_assoc p (run bs) (run y))
+append_by : (e : Ended) (p : Sent) (bs y : List ℕ) (s : Standing) → s.ended ≡ e → run_bytes (bs ++ y) p.0 ≡ then_more (run_bytes bs p.0) (run_bytes y)
+    → when_going e (then_more p (run_bytes (bs ++ y))) (s, []) ≡ then_more (when_going e (then_more p (run_bytes bs)) (s, [])) (run_bytes y)
+append_by Going p bs y s is so_far = then_same p (run_bytes (bs ++ y)) (λ t. then_more (run_bytes bs t) (run_bytes y)) so_far ∙ sym (then_assoc p (run_bytes bs) (run_bytes y))
 append_by Done p bs y s is so_far = sym (run_over y s (subst IsOver (sym is) tt))
 append_by (Failed f) p bs y s is so_far = sym (run_over y s (subst IsOver (sym is) tt))
 
 -- pieces may be cut anywhere
-pub run-append : (x y : List ℕ) (s : Standing) → run (x ++ y) s ≡ then_more (run x s) (run y)
-unfolding run
+pub run-append : (x y : List ℕ) (s : Standing) → run_bytes (x ++ y) s ≡ then_more (run_bytes x s) (run_bytes y)
+unfolding run_bytes
 run-append [] y s = refl
 run-append (b ∷ x) y s = append_by s.ended (byte_comes s b) x y s refl (run-append x y (byte_comes s b).0)
 
@@ -47,29 +47,29 @@ going_goes (Failed f) x y h = absurd cc
 abbrev pub with_under : Standing → Under → Standing
 with_under s u = record s { under = u }
 
-scanned_under : (s : Standing) (u : Under) (sc : Scan) → after_scan (with_under s u) sc run ≡ after_scan s sc run
+scanned_under : (s : Standing) (u : Under) (sc : Scan) → after_scan (with_under s u) sc run_bytes ≡ after_scan s sc run_bytes
 scanned_under s u (More v) = refl
 scanned_under s u (Whole m rest) = refl
 scanned_under s u Long = refl
 
-by_scan : (s : Standing) (b : ℕ) (bs : List ℕ) (sc : Scan) → s.ended ≡ Going → ((t : Standing) → t.ended ≡ Going → run bs t ≡ after_scan t (scan bs t.under) run)
-    → then_more (after_scan s sc stay) (run bs) ≡ after_scan s (scan_on sc bs (scan bs)) run
+by_scan : (s : Standing) (b : ℕ) (bs : List ℕ) (sc : Scan) → s.ended ≡ Going → ((t : Standing) → t.ended ≡ Going → run_bytes bs t ≡ after_scan t (scan bs t.under) run_bytes)
+    → then_more (after_scan s sc stay) (run_bytes bs) ≡ after_scan s (scan_on sc bs (scan bs)) run_bytes
 by_scan s b bs (More u) going rec = rec (with_under s u) going ∙ scanned_under s u (scan bs u)
 by_scan s b bs (Whole m r) going rec =
-    let p = message_comes (with_under s start) m in
-    ap (λ (x : List ℕ). ((run bs p.0).0, x ++ (run bs p.0).1)) (append-nil p.1)
+    let p = message_comes (with_under s start_of_chunks) m in
+    ap (λ (x : List ℕ). ((run_bytes bs p.0).0, x ++ (run_bytes bs p.0).1)) (append-nil p.1)
 by_scan s b bs Long going rec =
     let t = failure s TooLong in
     let bye = message_in_chunks (bye_message (code_of TooLong)) in
-    let over : run bs t ≡ (t, []) = run_over bs t tt in
+    let over : run_bytes bs t ≡ (t, []) = run_over bs t tt in
     ap (λ (q : Sent). (q.0, bye ++ q.1)) over ∙ ap (λ (x : List ℕ). (t, x)) (append-nil bye)
 
 -- bytes are scanned up to the end of a message
-pub run-scan : (bs : List ℕ) (s : Standing) → s.ended ≡ Going → run bs s ≡ after_scan s (scan bs s.under) run
-unfolding run scan
+pub run-scan : (bs : List ℕ) (s : Standing) → s.ended ≡ Going → run_bytes bs s ≡ after_scan s (scan bs s.under) run_bytes
+unfolding run_bytes scan
 run-scan [] s going = refl
 run-scan (b ∷ bs) s going =
-    going_goes s.ended (then_more (byte_comes s b) (run bs)) (s, []) going ∙ by_scan s b bs (byte_scanned s.under.place s.under.held b) going (run-scan bs)
+    going_goes s.ended (then_more (byte_comes s b) (run_bytes bs)) (s, []) going ∙ by_scan s b bs (byte_scanned s.under.place s.under.held b) going (run-scan bs)
 
 -- where a message ends
 pub record EndsAt (piece rest : List ℕ) (u : Under) (m : List ℕ) : Type 0 where
@@ -104,21 +104,21 @@ ran_over s sent piece over =
 
 pub ran_more : (s : Standing) (sent piece : List ℕ) (u : Under) → s.ended ≡ Going → scan piece s.under ≡ More u → Ran s sent piece (with_under s u) sent []
 ran_more s sent piece u going e =
-    let r : run piece s ≡ (with_under s u, []) = run-scan piece s going ∙ ap (λ (sc : Scan). after_scan s sc run) e in
+    let r : run_bytes piece s ≡ (with_under s u, []) = run-scan piece s going ∙ ap (λ (sc : Scan). after_scan s sc run_bytes) e in
     record { front = piece; split = sym (append-nil piece); now = ap (λ (q : Sent). q.0) (sym r); said = sym (append-nil sent) ∙ ap (λ (q : Sent). sent ++ q.1) (sym r) }
 
 pub ran_long : (s new : Standing) (sent more piece : List ℕ) → s.ended ≡ Going → scan piece s.under ≡ Long → new ≡ (refuses s TooLong).0 → more ≡ sent ++ (refuses s TooLong).1 → Ran s sent piece new more []
 ran_long s new sent more piece going e now said =
-    let r : run piece s ≡ refuses s TooLong = run-scan piece s going ∙ ap (λ (sc : Scan). after_scan s sc run) e in
+    let r : run_bytes piece s ≡ refuses s TooLong = run-scan piece s going ∙ ap (λ (sc : Scan). after_scan s sc run_bytes) e in
     record { front = piece; split = sym (append-nil piece); now = now ∙ ap (λ (q : Sent). q.0) (sym r); said = said ∙ ap (λ (q : Sent). sent ++ q.1) (sym r) }
 
 pub ran_message : (s new : Standing) (sent more piece rest m : List ℕ) → s.ended ≡ Going → scan piece s.under ≡ Whole m rest
-    → new ≡ (message_comes (with_under s start) m).0 → more ≡ sent ++ (message_comes (with_under s start) m).1 → Ran s sent piece new more rest
-unfolding run
+    → new ≡ (message_comes (with_under s start_of_chunks) m).0 → more ≡ sent ++ (message_comes (with_under s start_of_chunks) m).1 → Ran s sent piece new more rest
+unfolding run_bytes
 ran_message s new sent more piece rest m going e now said =
     let at = scan_ends piece rest s.under m e in
-    let p = message_comes (with_under s start) m in
-    let r : run at.front s ≡ p = run-scan at.front s going ∙ ap (λ (sc : Scan). after_scan s sc run) at.whole ∙ ap (λ (x : List ℕ). (p.0, x)) (append-nil p.1) in
+    let p = message_comes (with_under s start_of_chunks) m in
+    let r : run_bytes at.front s ≡ p = run-scan at.front s going ∙ ap (λ (sc : Scan). after_scan s sc run_bytes) at.whole ∙ ap (λ (x : List ℕ). (p.0, x)) (append-nil p.1) in
     record { front = at.front; split = at.split; now = now ∙ ap (λ (q : Sent). q.0) (sym r); said = said ∙ ap (λ (q : Sent). sent ++ q.1) (sym r) }
 
 pub rest_less : (s : Standing) (piece rest m : List ℕ) → scan piece s.under ≡ Whole m rest → length rest < length piece
@@ -130,23 +130,23 @@ rest_less s piece rest m e =
 
 pub ran_then : (a b c : Standing) (x y z p q r : List ℕ) → Ran a x p b y q → Ran b y q c z r → Ran a x p c z r
 ran_then a b c x y z p q r first second =
-    let both : run (first.front ++ second.front) a ≡ then_more (run first.front a) (run second.front) = run-append first.front second.front a in
+    let both : run_bytes (first.front ++ second.front) a ≡ then_more (run_bytes first.front a) (run_bytes second.front) = run-append first.front second.front a in
     record {
       front = first.front ++ second.front;
       split = first.split ∙ ap (λ (t : List ℕ). first.front ++ t) second.split ∙ sym (append_assoc first.front second.front r);
-      now = second.now ∙ ap (λ (t : Standing). (run second.front t).0) first.now ∙ ap (λ (t : Sent). t.0) (sym both);
-      said = second.said ∙ ap (λ (t : List ℕ). t ++ (run second.front b).1) first.said ∙ append_assoc x (run first.front a).1 (run second.front b).1
-          ∙ ap (λ (t : Standing). x ++ ((run first.front a).1 ++ (run second.front t).1)) first.now ∙ ap (λ (t : Sent). x ++ t.1) (sym both);
+      now = second.now ∙ ap (λ (t : Standing). (run_bytes second.front t).0) first.now ∙ ap (λ (t : Sent). t.0) (sym both);
+      said = second.said ∙ ap (λ (t : List ℕ). t ++ (run_bytes second.front b).1) first.said ∙ append_assoc x (run_bytes first.front a).1 (run_bytes second.front b).1
+          ∙ ap (λ (t : Standing). x ++ ((run_bytes first.front a).1 ++ (run_bytes second.front t).1)) first.now ∙ ap (λ (t : Sent). x ++ t.1) (sym both);
     }
 
 pub ran_none : (s : Standing) (sent piece : List ℕ) → Ran s sent piece s sent piece
-unfolding run
+unfolding run_bytes
 ran_none s sent piece = record { front = []; split = refl; now = refl; said = sym (append-nil sent) }
 
-pub ran_all : (s new : Standing) (sent more piece rest : List ℕ) → length rest ≡ 0 → Ran s sent piece new more rest → (new ≡ (run piece s).0) × (more ≡ sent ++ (run piece s).1)
+pub ran_all : (s new : Standing) (sent more piece rest : List ℕ) → length rest ≡ 0 → Ran s sent piece new more rest → (new ≡ (run_bytes piece s).0) × (more ≡ sent ++ (run_bytes piece s).1)
 ran_all s new sent more piece [] none r =
     let whole : r.front ≡ piece = sym (r.split ∙ append-nil r.front) in
-    (r.now ∙ ap (λ (x : List ℕ). (run x s).0) whole, r.said ∙ ap (λ (x : List ℕ). sent ++ (run x s).1) whole)
+    (r.now ∙ ap (λ (x : List ℕ). (run_bytes x s).0) whole, r.said ∙ ap (λ (x : List ℕ). sent ++ (run_bytes x s).1) whole)
 ran_all s new sent more piece (b ∷ rest) none r = absurd (omega arith)
 
 -- ---- in the words of the code
@@ -154,13 +154,13 @@ ran_all s new sent more piece (b ∷ rest) none r = absurd (omega arith)
 pub over_is : (e : Ended) → (e ≡ Done) ⊎ ((f : Fault) × (e ≡ Failed f)) → IsOver e
 over_is e h = elim h [ inl d ↦ subst IsOver (sym d) tt | inr f ↦ subst IsOver (sym f.1) tt ]
 
-pub ran_whole : (s mid new : Standing) (sent more piece rest m n : List ℕ) → s.ended ≡ Going → scan piece s.under ≡ Whole m rest → mid ≡ with_under s start → n ≡ m
+pub ran_whole : (s mid new : Standing) (sent more piece rest m n : List ℕ) → s.ended ≡ Going → scan piece s.under ≡ Whole m rest → mid ≡ with_under s start_of_chunks → n ≡ m
     → (new ≡ (message_comes mid n).0) × (more ≡ sent ++ (message_comes mid n).1) → Ran s sent piece new more rest
 ran_whole s mid new sent more piece rest m n going e mid-is same done =
-    let at : message_comes mid n ≡ message_comes (with_under s start) m = ap (λ (v : Standing). message_comes v n) mid-is ∙ ap (λ (x : List ℕ). message_comes (with_under s start) x) same in
+    let at : message_comes mid n ≡ message_comes (with_under s start_of_chunks) m = ap (λ (v : Standing). message_comes v n) mid-is ∙ ap (λ (x : List ℕ). message_comes (with_under s start_of_chunks) x) same in
     ran_message s new sent more piece rest m going e (done.0 ∙ ap (λ (q : Sent). q.0) at) (done.1 ∙ ap (λ (q : Sent). sent ++ q.1) at)
 
-pub ran_too_long : (s mid new : Standing) (sent more piece : List ℕ) → s.ended ≡ Going → scan piece s.under ≡ Long → mid ≡ with_under s start
+pub ran_too_long : (s mid new : Standing) (sent more piece : List ℕ) → s.ended ≡ Going → scan piece s.under ≡ Long → mid ≡ with_under s start_of_chunks
     → (new ≡ (refuses mid TooLong).0) × (more ≡ sent ++ (refuses mid TooLong).1) → Ran s sent piece new more []
 ran_too_long s mid new sent more piece going e mid-is done =
     let at : refuses mid TooLong ≡ refuses s TooLong = ap (λ (v : Standing). refuses v TooLong) mid-is in

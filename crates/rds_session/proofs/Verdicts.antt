@@ -23,7 +23,7 @@ use Rattle.rds_codec.proofs.HelloFormats.{hello_reader}
 use Rattle.rds_codec.proofs.InFormats.{answer_in_reader}
 use Rattle.rds_codec.proofs.Whole.{IsReaderOf}
 use Rattle.rds_keep.specs.FedTexts.{decodes_texts}
-use Rattle.rds_keep.specs.Feeding.{AreBytes}
+use Rattle.rds_keep.specs.Feeding.{EachIsByte}
 use Rattle.rds_session.specs.Bodies.{hello_in, digest_in, answer_in}
 use Rattle.rds_session.specs.Contents.{ContentValue, OfHello, OfDigest, OfHash, OfDelta, OfBye, OfMark, IsRead, IsReadFor, body_read, bye_read, code_read, content_judged, expected_of, expects_hash, expects_mark, hash_read, hello_read, kind_read, message_read, plain_read, read_as, version_read}
 use Rattle.rds_session.specs.Judging.{Awaited, ForHello, ForDigest, ForWhole, ForDelta, ForBye, Said, Judges, StopsAs, StopsByNoDevice, body_came, bye_came, code_came, hash_came, hash_judged, hello_came, is_done, kind_came, plain_came, read_then, replicas_of, verdict, version_came, version_with, waits_for_hash, waits_for_mark}
@@ -153,7 +153,7 @@ fails_so : {A : Type 0} (e : Fault) (r : Result A Fault) → r ≡ Err e → Fai
 fails_so Memory r is = tt
 fails_so e r is = is
 
-text_known : {V : Type 0} (kind : Kind V) (reader : Reader V) → IsReaderOf kind reader → (bytes : List ℕ) → AreBytes bytes → length bytes ≤ LIMIT → (r : Result V Fault) → all_of reader bytes ≡ r → IsKnown r
+text_known : {V : Type 0} (kind : Kind V) (reader : Reader V) → IsReaderOf kind reader → (bytes : List ℕ) → EachIsByte bytes → length bytes ≤ LIMIT → (r : Result V Fault) → all_of reader bytes ≡ r → IsKnown r
 text_known kind reader laws bytes are within (Ok v) is = tt
 text_known kind reader laws bytes are within (Err e) is = known_fault e ((decodes_texts kind reader laws).decodes bytes (Err e) are within (fails_so e (all_of reader bytes) is)).other
 
@@ -195,7 +195,7 @@ hash_known true body = as_known OfHash (hash_in body) (hash_in_known (ltb (lengt
 hash_known false body = tt
 
 -- the version's own byte is one too
-hello_bytes : (version : Version) (byte : ℕ) (rest : List ℕ) → AreBytes (byte ∷ rest) → AreBytes (as_hello version rest)
+hello_bytes : (version : Version) (byte : ℕ) (rest : List ℕ) → EachIsByte (byte ∷ rest) → EachIsByte (as_hello version rest)
 hello_bytes One byte rest are zero = omega arith
 hello_bytes Two byte rest are zero = omega arith
 hello_bytes Three byte rest are zero = omega arith
@@ -203,18 +203,18 @@ hello_bytes Four byte rest are zero = omega arith
 hello_bytes Five byte rest are zero = omega arith
 hello_bytes version byte rest are (suc i) = are (suc i)
 
-version_known : (version : Option Version) (rest : List ℕ) → ((v : Version) → AreBytes (as_hello v rest)) → length rest < LIMIT → IsKnown (version_read version rest)
+version_known : (version : Option Version) (rest : List ℕ) → ((v : Version) → EachIsByte (as_hello v rest)) → length rest < LIMIT → IsKnown (version_read version rest)
 unfolding hello_in
 version_known None rest are within = tt
 version_known (Some version) rest are within =
     as_known (OfHello version) (hello_in (as_hello version rest))
     (text_known hello_kind hello_at hello_reader (as_hello version rest) (are version) (omega (arith, within)) (hello_in (as_hello version rest)) refl)
 
-hello_known : (side : Side) (body : List ℕ) → AreBytes body → length body ≤ LIMIT → IsKnown (hello_read side body)
+hello_known : (side : Side) (body : List ℕ) → EachIsByte body → length body ≤ LIMIT → IsKnown (hello_read side body)
 hello_known side [] are within = tt
 hello_known side (byte ∷ rest) are within = version_known (version_with side byte) rest (λ v. hello_bytes v byte rest are) (omega (arith, within))
 
-module _ (body : List ℕ) (are : AreBytes body) (within : length body ≤ LIMIT) where
+module _ (body : List ℕ) (are : EachIsByte body) (within : length body ≤ LIMIT) where
   whole_known : (n : ℕ) (briefs : Bool) → IsKnown (cond briefs (all_of (brief_at n) body) (all_of (digest_at n) body))
   whole_known n true = text_known (brief_kind n) (brief_at n) (brief_reader n) body are within (all_of (brief_at n) body) refl
   whole_known n false = text_known (digest_kind n) (digest_at n) (digest_reader n) body are within (all_of (digest_at n) body) refl
@@ -248,7 +248,7 @@ module _ (body : List ℕ) (are : AreBytes body) (within : length body ≤ LIMIT
   kind_known expected None = tt
   kind_known expected (Some kind) = body_known expected kind
 
-message_known : (expected : Expected) (m : List ℕ) → AreBytes m → length m ≤ LIMIT → IsKnown (message_read expected m)
+message_known : (expected : Expected) (m : List ℕ) → EachIsByte m → length m ≤ LIMIT → IsKnown (message_read expected m)
 unfolding message_read
 message_known expected [] are within = tt
 message_known expected (n ∷ body) are within = kind_known body (λ i. are (suc i)) (omega arith) expected (kind_of n)
@@ -258,7 +258,7 @@ known_so Memory r fails known = tt
 known_so e r fails known = rw fails at known
 
 -- none of them is that of a device
-pub known_end : (expected : Expected) (m : List ℕ) (e : Fault) → AreBytes m → length m ≤ LIMIT → Fails e (message_read expected m) → StopsByNoDevice (Refused e)
+pub known_end : (expected : Expected) (m : List ℕ) (e : Fault) → EachIsByte m → length m ≤ LIMIT → Fails e (message_read expected m) → StopsByNoDevice (Refused e)
 known_end expected m e are within fails = known_so e (message_read expected m) fails (message_known expected m are within)
 
 -- ---- the answer
@@ -295,19 +295,19 @@ kind_of_delta format n (Some kinds.Hello) body a is = absurd cc
 kind_of_delta format n (Some kinds.Digest) body a is = absurd cc
 kind_of_delta format n (Some kinds.Delta) body a is = read_delta (answer_in format n body) a is
 
-answer_of : (format : Format) (n : ℕ) (body : List ℕ) (a : AnswerValue) → AreBytes body → length body ≤ LIMIT → answer_in format n body ≡ Ok a → IsAnswerOf n a
+answer_of : (format : Format) (n : ℕ) (body : List ℕ) (a : AnswerValue) → EachIsByte body → length body ≤ LIMIT → answer_in format n body ≡ Ok a → IsAnswerOf n a
 unfolding answer_in
 answer_of format n body a are within is =
     ((decodes_texts (answer_kind_in format n) (answer_at_in format n) (answer_in_reader format n)).decodes body (Ok a) are within is).value.1.is_value
 
-delta_read : (format : Format) (n : ℕ) (m : List ℕ) (a : AnswerValue) → AreBytes m → length m ≤ LIMIT → message_read (expecteds.Delta format n) m ≡ Ok (OfDelta a) → IsRead format n a
+delta_read : (format : Format) (n : ℕ) (m : List ℕ) (a : AnswerValue) → EachIsByte m → length m ≤ LIMIT → message_read (expecteds.Delta format n) m ≡ Ok (OfDelta a) → IsRead format n a
 unfolding message_read
 delta_read format n [] a are within is = absurd cc
 delta_read format n (b ∷ body) a are within is =
     let read = kind_of_delta format n (kind_of b) body a is in
     record { body = body; read = read; value = answer_of format n body a (λ i. are (suc i)) (omega arith) read }
 
-read_so : (kept : ReplicaValue) (turn : Awaited) (m : List ℕ) (content : ContentValue) → AreBytes m → length m ≤ LIMIT → message_read (expected_of kept turn) m ≡ Ok content → IsReadFor kept turn content
+read_so : (kept : ReplicaValue) (turn : Awaited) (m : List ℕ) (content : ContentValue) → EachIsByte m → length m ≤ LIMIT → message_read (expected_of kept turn) m ≡ Ok content → IsReadFor kept turn content
 read_so kept (ForDelta peer digest) m (OfDelta a) are within is = delta_read (delta_format peer.version) (replicas_of kept peer.roster) m a are within is
 read_so kept (ForDelta peer digest) m (OfHello version h) are within is = tt
 read_so kept (ForDelta peer digest) m (OfMark mark) are within is = tt
@@ -319,6 +319,6 @@ read_so kept (ForDigest peer) m content are within is = tt
 read_so kept (ForWhole peer) m content are within is = tt
 read_so kept (ForBye mark) m content are within is = tt
 
-pub read_for : (kept : ReplicaValue) (turn : Awaited) (m : List ℕ) (expected : Expected) (content : ContentValue) → expected ≡ expected_of kept turn → AreBytes m → length m ≤ LIMIT
+pub read_for : (kept : ReplicaValue) (turn : Awaited) (m : List ℕ) (expected : Expected) (content : ContentValue) → expected ≡ expected_of kept turn → EachIsByte m → length m ≤ LIMIT
     → message_read expected m ≡ Ok content → IsReadFor kept turn content
 read_for kept turn m expected content same are within read = read_so kept turn m content are within (ap (λ (x : Expected). message_read x m) (sym same) ∙ read)

@@ -13,8 +13,8 @@ pub record Under : Type 0 where
   pub place : Place
   pub held : List ℕ
 
-abbrev pub start : Under
-start = record { place = First; held = [] }
+abbrev pub start_of_chunks : Under
+start_of_chunks = record { place = First; held = [] }
 
 -- what the next bytes make of a message that has begun
 pub data Scan : Type 0 where
@@ -57,11 +57,11 @@ abbrev pub message_text : List (List ℕ) → List ℕ
 message_text cs = flat_map chunk_text cs ++ 0 ∷ 0 ∷ []
 
 -- cut into chunks of the greatest length but the last
-abbrev pub cut : ℕ → List ℕ → List (List ℕ)
-cut zero m = []
-cut (suc n) [] = []
-cut (suc n) (b ∷ m) = take chunk_most (b ∷ m) ∷ cut n (drop chunk_most (b ∷ m))
+abbrev pub cut_in_chunks : ℕ → List ℕ → List (List ℕ)
+cut_in_chunks zero m = []
+cut_in_chunks (suc n) [] = []
+cut_in_chunks (suc n) (b ∷ m) = take chunk_most (b ∷ m) ∷ cut_in_chunks n (drop chunk_most (b ∷ m))
 
 -- how a message is sent
 unfoldable pub message_in_chunks : List ℕ → List ℕ
-message_in_chunks m = message_text (cut (length m) m)
+message_in_chunks m = message_text (cut_in_chunks (length m) m)

@@ -1,14 +1,14 @@
 -- What a session holds of a message that is under way.
 use Rattle.std.specs.Prelude.{◌≡◌, Option, Some, None, IfSome}
 use Rattle.rds_state.specs.Fits.{ReplicaValue}
-use Rattle.rds_session.specs.Chunks.{Under, start}
+use Rattle.rds_session.specs.Chunks.{Under, start_of_chunks}
 use Rattle.rds_session.specs.Contents.{expected_of}
 use Rattle.rds_session.specs.Judging.{Awaited}
 use Rattle.rds_session.specs.Arriving.{Reading}
 
 -- where nothing is held, no message is under way
 abbrev pub under_of : Option Reading → Under
-under_of None = start
+under_of None = start_of_chunks
 under_of (Some reading) = reading.under
 
 -- it is read as the one that is waited for

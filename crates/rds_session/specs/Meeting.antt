@@ -12,7 +12,7 @@ use Rattle.rds_state.specs.declared.mark.Mark.{Mark}
 use Rattle.rds_delta.specs.Digested.{digest_of}
 use Rattle.rds_delta.specs.Least.{least}
 use Rattle.rds_delta.specs.Ranks.{ranks}
-use Rattle.rds_life.specs.Life.{AreCompatible}
+use Rattle.rds_life.specs.Life.{LivesAreCompatible}
 use Rattle.rds_codec.specs.DigestTexts.{digest_text}
 use Rattle.rds_codec.specs.StateTexts.{IsSnapshot}
 use Rattle.rds_session.specs.declared.chunks.TheConstants.{MESSAGE_LIMIT}
@@ -105,7 +105,7 @@ last_mark version own peer = told_mark version own.state (least_state peer.state
 
 -- where marks are told, no dot is live in both with different entries
 abbrev pub AgreeWhereTold : Version → ReplicaValue → ReplicaValue → Type 0
-AgreeWhereTold version a b = tells_marks version ≡ true → AreCompatible a.state.lives b.state.lives
+AgreeWhereTold version a b = tells_marks version ≡ true → LivesAreCompatible a.state.lives b.state.lives
 
 abbrev pub BothEnd : Type 0
 BothEnd = (version : Version) (a b : ReplicaValue) (x y : List ℕ) → CanMeet version a b → AgreeWhereTold version a b

@@ -10,7 +10,7 @@ use Rattle.rds_session.specs.declared.talk.Stop.{Stop}
 use Rattle.rds_session.specs.declared.talk.Stop.TheVariants.{Refused, Left}
 use Rattle.rds_session.specs.declared.step.Ended.{Ended}
 use Rattle.rds_session.specs.declared.step.Ended.TheVariants.{Going, Done, Failed}
-use Rattle.rds_session.specs.Chunks.{Under, start, message_in_chunks, Scan, More, Whole, Long, byte_scanned}
+use Rattle.rds_session.specs.Chunks.{Under, start_of_chunks, message_in_chunks, Scan, More, Whole, Long, byte_scanned}
 use Rattle.rds_session.specs.Messages.{hello_message, digest_said, bye_message, code_of}
 use Rattle.rds_session.specs.Judging.{Awaited, ForHello, Said, Receives, Finishes, Forks, verdict, awaited_after, replies_of}
 use Rattle.rds_session.specs.Received.{Delivery}
@@ -36,11 +36,11 @@ fresh side kept = record {
   turn = ForHello side;
   received = None;
   ended = Going;
-  under = start;
+  under = start_of_chunks;
 }
 
 abbrev pub failure : Standing → Fault → Standing
-failure s f = record s { ended = Failed f; under = start }
+failure s f = record s { ended = Failed f; under = start_of_chunks }
 
 -- a standing, and what was sent on the way to it
 abbrev pub Sent : Type 0
@@ -87,7 +87,7 @@ message_comes s m = after_verdict s (verdict s.kept s.turn m)
 -- what was scanned comes, and then the rest
 abbrev pub after_scan : Standing → Scan → (List ℕ → Standing → Sent) → Sent
 after_scan s (More u) go = (record s { under = u }, [])
-after_scan s (Whole m rest) go = then_more (message_comes (record s { under = start }) m) (go rest)
+after_scan s (Whole m rest) go = then_more (message_comes (record s { under = start_of_chunks }) m) (go rest)
 after_scan s Long go = refuses s TooLong
 
 -- nothing more
@@ -98,9 +98,9 @@ abbrev pub byte_comes : Standing → ℕ → Sent
 byte_comes s b = after_scan s (byte_scanned s.under.place s.under.held b) stay
 
 -- bytes come, one after the other
-unfoldable pub run : List ℕ → Standing → Sent
-run [] s = (s, [])
-run (b ∷ bs) s = when_going s.ended (then_more (byte_comes s b) (run bs)) (s, [])
+unfoldable pub run_bytes : List ℕ → Standing → Sent
+run_bytes [] s = (s, [])
+run_bytes (b ∷ bs) s = when_going s.ended (then_more (byte_comes s b) (run_bytes bs)) (s, [])
 
 abbrev pub opening : Side → ReplicaValue → List (List ℕ)
 opening (Client version) kept = hello_message kept version ∷ digest_said (says_hashes version) version kept ∷ []
@@ -133,12 +133,12 @@ heard_more (All_of x) input = All_of x
 -- the standing of a stream, and all bytes that are sent for it
 unfoldable pub course : Side → ReplicaValue → Heard → Sent
 course side kept Nothing = (fresh side kept, [])
-course side kept (So_far x) = then_more (after_opening (fresh side kept)) (run x)
-course side kept (All_of x) = then_more (then_more (after_opening (fresh side kept)) (run x)) cut_off
+course side kept (So_far x) = then_more (after_opening (fresh side kept)) (run_bytes x)
+course side kept (All_of x) = then_more (then_more (after_opening (fresh side kept)) (run_bytes x)) cut_off
 
 -- one step from a standing
 abbrev pub after_input : Option (List ℕ) → Standing → Sent
-after_input (Some piece) s = run piece s
+after_input (Some piece) s = run_bytes piece s
 after_input None s = cut_off s
 
 unfoldable pub after_step : Standing → Option (List ℕ) → Sent

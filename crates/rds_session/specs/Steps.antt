@@ -15,7 +15,7 @@ use Rattle.rds_session.specs.declared.talk.Stop.TheVariants.{Refused}
 use Rattle.rds_session.specs.Judging.{StopsByNoDevice}
 use Rattle.rds_session.specs.Messages.{bye_message}
 use Rattle.rds_session.specs.Received.{Delivery}
-use Rattle.rds_session.specs.Session.{Standing, Sent, then_more, run, after_opening, after_input, after_step, Heard, heard_more, course}
+use Rattle.rds_session.specs.Session.{Standing, Sent, then_more, run_bytes, after_opening, after_input, after_step, Heard, heard_more, course}
 
 -- ---- a step, and the stream
 
@@ -80,17 +80,17 @@ TakesStep old sent new more result go = MatchResult result
 pub record Ran (old : Standing) (sent piece : List ℕ) (new : Standing) (more rest : List ℕ) : Type 0 where
   pub front : List ℕ
   pub split : piece ≡ front ++ rest
-  pub now : new ≡ (run front old).0
-  pub said : more ≡ sent ++ (run front old).1
+  pub now : new ≡ (run_bytes front old).0
+  pub said : more ≡ sent ++ (run_bytes front old).1
 
 -- what was received after a front of the bytes
 abbrev pub ReceivedOnTheWay : Standing → List ℕ → Option Delivery → Type 0
-ReceivedOnTheWay old piece received = (front rest : List ℕ) × (piece ≡ front ++ rest) × (received ≡ (run front old).0.received)
+ReceivedOnTheWay old piece received = (front rest : List ℕ) × (piece ≡ front ++ rest) × (received ≡ (run_bytes front old).0.received)
 
 -- the bytes came; or memory ran out with what was received after a front of them
 abbrev pub Runs : {T : Type 0} → Standing → List ℕ → List ℕ → Standing → List ℕ → Result T Fault → Type 0
 Runs old sent piece new more result = MatchResult result
-    (λ _. (new ≡ (run piece old).0) × (more ≡ sent ++ (run piece old).1))
+    (λ _. (new ≡ (run_bytes piece old).0) × (more ≡ sent ++ (run_bytes piece old).1))
     (λ e. (e ≡ Memory) × ReceivedOnTheWay old piece new.received)
 
 abbrev pub piece_of : Option (List ℕ) → List ℕ

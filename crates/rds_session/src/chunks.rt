@@ -80,12 +80,12 @@ fn place_of(left: u16) -> Place
 }
 
 impl<S: DotSet> Chunks<S> {
-    ghost use Rattle.rds_session.specs.Chunks.{start, scan};
+    ghost use Rattle.rds_session.specs.Chunks.{start_of_chunks, scan};
     ghost use Rattle.rds_session.specs.Scanning.{IsScan, MessageIsWithin};
 
     /// Nothing of a message. Takes no memory.
     pub fn new(expected: Expected) -> Chunks<S>
-        ensures { result ≡ record { expected = expected; under = start } }
+        ensures { result ≡ record { expected = expected; under = start_of_chunks } }
     {
         Chunks {
             place: Place::First,

@@ -3,7 +3,7 @@ ghost use Rattle.std.specs.Prelude.{◌≡◌, ◌≤◌, ◌&&◌, ℕ, Bool, t
 ghost use Rattle.rds_names.specs.declared.fault.Fault.TheVariants.{Memory};
 ghost use Rattle.rds_bytes.specs.Reading.{Reads};
 ghost use Rattle.rds_codec.specs.declared.limits.TheConstants.{LIMIT};
-ghost use Rattle.rds_keep.specs.Feeding.{AreBytes};
+ghost use Rattle.rds_keep.specs.Feeding.{EachIsByte};
 ghost use Rattle.rds_session.specs.declared.content.Expected.{Expected};
 ghost use Rattle.rds_session.specs.declared.content.Expected.TheVariants as expecteds;
 ghost use Rattle.rds_session.specs.declared.kinds.ByeCode.TheVariants as byes;
@@ -300,14 +300,14 @@ impl<S: DotSet> Drop for Message<S> {
 }
 
 impl<S: DotSet> Model for Message<S> {
-    ghost use Rattle.rds_keep.specs.Feeding.{AreBytes};
+    ghost use Rattle.rds_keep.specs.Feeding.{EachIsByte};
     ghost use Rattle.rds_session.specs.Begun.{HoldsBegun, MessageValue};
 
     ghost Value = { MessageValue };
 
     ghost view = { λ m. record { expected = m.expected; came = m.came.bytes } };
 
-    ghost invariant = { λ m. HoldsBegun m.expected m.body m.came.bytes × AreBytes m.came.bytes };
+    ghost invariant = { λ m. HoldsBegun m.expected m.body m.came.bytes × EachIsByte m.came.bytes };
 }
 
 impl<S: DotSet> Message<S> {
@@ -347,7 +347,7 @@ impl<S: DotSet> Message<S> {
     pub fn end(self, alloc: Global) -> Result<Content<S>, Fault>
         ensures read { length self.came ≤ LIMIT
             → Reads content_value result (message_read self.expected self.came) }
-        ensures bytes { AreBytes self.came }
+        ensures bytes { EachIsByte self.came }
     {
         let Message {
             expected: _,

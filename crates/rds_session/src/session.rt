@@ -91,7 +91,7 @@ impl<'a, S: DotSet> Session<'a, S> {
     ghost use Rattle.rds_session.specs.declared.step.Ended.TheVariants.{Going};
     ghost use Rattle.rds_session.specs.declared.talk.Side.{Side};
     ghost use Rattle.rds_session.specs.declared.talk.Side.TheVariants.{Server};
-    ghost use Rattle.rds_session.specs.Chunks.{start};
+    ghost use Rattle.rds_session.specs.Chunks.{start_of_chunks};
     ghost use Rattle.rds_session.specs.Contents.{expected_of};
     ghost use Rattle.rds_session.specs.Judging.{StopsByNoDevice, saying_of};
     ghost use Rattle.rds_session.specs.Received.{
@@ -318,7 +318,7 @@ impl<'a, S: DotSet> Session<'a, S> {
 
     // Takes what has come of a message out of the session.
     fn under_way(&mut self) -> Chunks<S>
-        ensures taken { self.new ≡ record self.old { under = start } }
+        ensures taken { self.new ≡ record self.old { under = start_of_chunks } }
         ensures chunks { result
             ≡ record { expected = expected_of self.old.kept self.old.turn; under = self.old.under } }
     {
@@ -337,7 +337,8 @@ impl<'a, S: DotSet> Session<'a, S> {
     ) -> Result<(), Fault>
         requires within { length message.came ≤ MESSAGE_LIMIT }
         requires expected { message.expected ≡ expected_of self.old.kept self.old.turn }
-        ensures does { TakesStep (record self.old { under = start }) send.old.items self.new send.new.items result
+        ensures does { TakesStep (record self.old { under = start_of_chunks })
+            send.old.items self.new send.new.items result
             (λ s. message_comes s message.came) }
         ensures known { OnOk result (IsNoDevice self.old.ended → IsNoDevice self.new.ended) }
         ensures kept { self.new.kept ≡ self.old.kept }
@@ -359,7 +360,8 @@ impl<'a, S: DotSet> Session<'a, S> {
     #[tactic(auto, using(crate::proofs::Moves::all_sent, crate::proofs::Moves::some_sent))]
     fn answer(&mut self, alloc: Global, act: Act<S>, send: &mut Vec<u8>) -> Result<(), Fault>
         requires { Brings self.old.kept self.old.turn act }
-        ensures does { TakesStep (record self.old { under = start }) send.old.items self.new send.new.items result
+        ensures does { TakesStep (record self.old { under = start_of_chunks })
+            send.old.items self.new send.new.items result
             (λ s. after_verdict s (Ok (saying_of act))) }
         ensures known { OnOk result (IsNoDevice self.old.ended → IsNoDevice self.new.ended) }
         ensures kept { self.new.kept ≡ self.old.kept }
@@ -384,7 +386,7 @@ impl<'a, S: DotSet> Session<'a, S> {
 
     fn perform(&mut self, act: Act<S>)
         requires { Brings self.old.kept self.old.turn act }
-        ensures performed { self.new ≡ after_said (record self.old { under = start }) (saying_of act) }
+        ensures performed { self.new ≡ after_said (record self.old { under = start_of_chunks }) (saying_of act) }
         ensures known { IsNoDevice self.old.ended → IsNoDevice self.new.ended }
     {
         self.under = None;

@@ -13,7 +13,7 @@ use Rattle.rds_life.specs.Life.{Lived, seen_of}
 use Rattle.rds_counts.specs.declared.row.Which.TheVariants.{P, N}
 use Rattle.rds_counts.specs.declared.row.CountRow.{CountRow}
 use Rattle.rds_counts.specs.Place.{Place}
-use Rattle.rds_counts.specs.Counted.{Above, Counted, number, number_from, place, above, components, counts_of}
+use Rattle.rds_counts.specs.Counted.{Above, Counted, number, number_from, place, entry_above, components, counts_of}
 use Rattle.rds_counts.specs.Counted.{AreCountRows}
 use Rattle.rds_counts.specs.Entries.{entries-counts_of}
 use Rattle.rds_state.specs.Value.{StateValue}
@@ -25,7 +25,7 @@ module _ (here : Place → ℕ) (own : ℕ) where
   never : (x : ℕ) (b : Bool) → (b && nat_lt x 0) ≡ false
   never x b = grind (arith, nat_tests)
 
-  ahead-above : (q : Place) (n : ℕ) (es : List (Place × Above)) → first_ahead here own (above q n ++ es) ≡ cond ((q.replica == own) && nat_lt (here q) n) (Some (own_number q.which n)) (first_ahead here own es)
+  ahead-above : (q : Place) (n : ℕ) (es : List (Place × Above)) → first_ahead here own (entry_above q n ++ es) ≡ cond ((q.replica == own) && nat_lt (here q) n) (Some (own_number q.which n)) (first_ahead here own es)
   ahead-above q zero es = sym (ap (λ b. cond b (Some (own_number q.which 0)) (first_ahead here own es)) (never (here q) (q.replica == own)))
   ahead-above q (suc n) es = let e : n + 1 ≡ suc n = omega arith in ap (λ m. cond ((q.replica == own) && nat_lt (here q) m) (Some (own_number q.which m)) (first_ahead here own es)) e
 
@@ -38,7 +38,7 @@ module _ (here : Place → ℕ) (own : ℕ) where
   ahead-components (r ∷ rs) =
       let p = place r.key r.replica P in
       let n = place r.key r.replica N in
-      ahead-above p r.p (above n r.n ++ components rs)
+      ahead-above p r.p (entry_above n r.n ++ components rs)
       ∙ ap (cond ((r.replica == own) && nat_lt (here p) r.p) (Some (Plus r.p))) (ahead-above n r.n (components rs) ∙ ap (cond ((r.replica == own) && nat_lt (here n) r.n) (Some (Minus r.n))) (ahead-components rs))
       ∙ both (r.replica == own) (nat_lt (here p) r.p) (nat_lt (here n) r.n) (Some (Plus r.p)) (Some (Minus r.n)) (rows_ahead here own rs)
 

@@ -19,7 +19,7 @@ use Rattle.rds_dots.specs.declared.dot.TheConstants.{MAX_SEQ}
 use Rattle.rds_dots.specs.Dots.{Dots, dot_cmp, is_dot, IsTop}
 use Rattle.rds_dots.specs.Lacking.{dot_of}
 use Rattle.rds_dots.specs.Order.{dots_total}
-use Rattle.rds_dots.specs.Sets.{dot_limits, same_dot as dot_is}
+use Rattle.rds_dots.specs.Sets.{dot_limits, tied_dots_are_one as dot_is}
 use Rattle.rds_counts.specs.declared.row.Which.TheVariants.{P, N}
 use Rattle.rds_counts.specs.Place.{Place, place_cmp}
 use Rattle.rds_counts.specs.Counted.{number, place}
@@ -27,7 +27,7 @@ use Rattle.rds_life.specs.Killed.{killed_by}
 use Rattle.rds_life.specs.Life.{Life, Live, Dead, join_life, seen_of}
 use Rattle.rds_life.proofs.LifeOrder.{join_none}
 use Rattle.rds_life.proofs.Views.{contains-seen_of}
-use Rattle.rds_state.specs.Chosen.{Parts, parts_of, is_chosen, same_dot, AreRaised}
+use Rattle.rds_state.specs.Chosen.{CommandParts, command_parts, is_chosen, same_dot, AreRaised}
 use Rattle.rds_state.specs.Coordinates.{Coordinates}
 use Rattle.rds_state.specs.Edit.{covers, IsMade, greatest, own_top, is_next, life_made, life_killed, number_raised}
 use Rattle.rds_state.specs.Edit.{effect_number, JoinsEffect, refusal, path_fault, seq_fault}
@@ -88,7 +88,7 @@ module _ (v : StateValue) (own t : ℕ) (s : Dots) (seen : s ≡ seen_of v.lives
 -- ---- commands that make an entry
 
 module _ (a : Coordinates) (own : ℕ) where
-  pub refusal_of_parts : (c : Command) (p : Parts) → parts_of c ≡ Some p → refusal a own c ≡ path_fault p.path (seq_fault (own_top a own))
+  pub refusal_of_parts : (c : Command) (p : CommandParts) → command_parts c ≡ Some p → refusal a own c ≡ path_fault p.path (seq_fault (own_top a own))
   refusal_of_parts (Set q v) p is = let e : q ≡ p.path = cc is in ap (λ x. path_fault x (seq_fault (own_top a own))) e
   refusal_of_parts (Add q v) p is = let e : q ≡ p.path = cc is in ap (λ x. path_fault x (seq_fault (own_top a own))) e
   refusal_of_parts (Del q v) p is = cc is
@@ -112,14 +112,14 @@ module _ (a : Coordinates) (own : ℕ) where
       lt_true : (x y : ℕ) → x < y → nat_lt x y ≡ true
       lt_true x y h = grind (arith, nat_tests)
 
-  module _ (c : Command) (p : Parts) (is : parts_of c ≡ Some p) (t : ℕ) (top : own_top a own ≡ t) where
+  module _ (c : Command) (p : CommandParts) (is : command_parts c ≡ Some p) (t : ℕ) (top : own_top a own ≡ t) where
     pub full_is_due : p.path ≢ [] → MAX_SEQ ≤ t → refusal a own c ≡ Some SeqFull
     full_is_due below h = refusal_of_parts c p is ∙ past_root p.path _ below ∙ ap seq_fault top ∙ full t h
 
     pub none_is_due : p.path ≢ [] → t < MAX_SEQ → refusal a own c ≡ None
     none_is_due below h = refusal_of_parts c p is ∙ past_root p.path _ below ∙ ap seq_fault top ∙ room t h
 
-pub made_of_parts : (c : Command) (p : Parts) (e : Entry) → parts_of c ≡ Some p → HasParts p.path p.kind p.value e → IsMade c (Some e)
+pub made_of_parts : (c : Command) (p : CommandParts) (e : Entry) → command_parts c ≡ Some p → HasParts p.path p.kind p.value e → IsMade c (Some e)
 made_of_parts (Set q v) p e is has =
     let path : p.path ≡ q = cc is in
     let kind : p.kind ≡ Reg = cc is in
@@ -135,7 +135,7 @@ made_of_parts (Clear q) p e is has = cc is
 made_of_parts (Inc k by) p e is has = cc is
 made_of_parts (Dec k by) p e is has = cc is
 
-no_number : (c : Command) (p : Parts) → parts_of c ≡ Some p → (a : Coordinates) (own : ℕ) (q : Place) → effect_number a own c q ≡ 0
+no_number : (c : Command) (p : CommandParts) → command_parts c ≡ Some p → (a : Coordinates) (own : ℕ) (q : Place) → effect_number a own c q ≡ 0
 no_number (Set q v) p is a own x = refl
 no_number (Add q v) p is a own x = refl
 no_number (Del q v) p is a own x = refl
@@ -159,7 +159,7 @@ killed_joined c (Some (Live e)) test d same = ap (λ b. cond b (Some Dead) (Some
     by false = refl
 killed_joined c (Some Dead) test d same = refl
 
-module _ (a b : StateValue) (own : ℕ) (c : Command) (p : Parts) (is : parts_of c ≡ Some p) (t : ℕ) (top : own_top (coordinates a) own ≡ t) (e : Entry) (unseen : map.get a.lives (dot_of own (t + 1)) ≡ None)
+module _ (a b : StateValue) (own : ℕ) (c : Command) (p : CommandParts) (is : command_parts c ≡ Some p) (t : ℕ) (top : own_top (coordinates a) own ≡ t) (e : Entry) (unseen : map.get a.lives (dot_of own (t + 1)) ≡ None)
     (has : HasParts p.path p.kind p.value e) (counts : b.counts ≡ a.counts)
     (lives : (d : Dot) → map.get b.lives d ≡ killed_by (is_chosen c (Some (dot_of own (t + 1)))) d (map.get (map.insert a.lives (dot_of own (t + 1)) (Live e)) d)) where
   abbrev new : Dot

@@ -12,7 +12,7 @@ use Rattle.rds_dots.specs.declared.dot.Dot.{Dot}
 use Rattle.rds_dots.specs.Ascending.{is_above, ascends}
 use Rattle.rds_dots.specs.Dots.{dot_cmp}
 use Rattle.rds_dots.specs.Order.{dots_total}
-use Rattle.rds_dots.specs.Sets.{same_dot as dot_is}
+use Rattle.rds_dots.specs.Sets.{tied_dots_are_one as dot_is}
 use Rattle.rds_life.specs.Killed.{but_for, killed_by}
 use Rattle.rds_life.specs.Life.{Life, Live, Dead, Lived, keys, entry_of, live_rows}
 use Rattle.rds_life.proofs.Views.{find-live_rows, rise-live_rows}

@@ -12,7 +12,7 @@ use Rattle.rds_names.specs.declared.entry.Entry.{Entry}
 use Rattle.rds_dots.specs.declared.dot.Dot.{Dot}
 use Rattle.rds_dots.specs.Dots.{dot_cmp}
 use Rattle.rds_dots.specs.Order.{dots_total, dots_exact}
-use Rattle.rds_dots.specs.Sets.{same_dot}
+use Rattle.rds_dots.specs.Sets.{tied_dots_are_one}
 use Rattle.rds_life.specs.Life.{Life, Live, Dead, entry_of, live_rows}
 use Rattle.rds_life.proofs.Kills.{live_rows-put}
 use Rattle.rds_life.proofs.Views.{find-live_rows}
@@ -71,5 +71,5 @@ mark-dead v d e is =
     let back = map.same_map dots_total dots_exact (map.insert dead d (Live e)) v.lives (λ q.
     map.get-insert dots_total dead d (Live e) q
     ∙ ap (cond (eq_by_cmp dot_cmp q d) (Some (Live e))) (map.get-insert dots_total v.lives d Dead q)
-    ∙ life_again (eq_by_cmp dot_cmp q d) (Live e) Dead (map.get v.lives q) (λ same. ap (map.get v.lives) (same_dot q d same) ∙ is)) in
+    ∙ life_again (eq_by_cmp dot_cmp q d) (Live e) Dead (map.get v.lives q) (λ same. ap (map.get v.lives) (tied_dots_are_one q d same) ∙ is)) in
     sym (mark-live (record { lives = dead; counts = v.counts }) d e (ap entry_of at)) ∙ ap (λ l. mark_of (record { lives = l; counts = v.counts })) back

@@ -21,15 +21,15 @@ is_chosen c None d e = covers c e
 is_chosen c (Some new) d e = not (same_dot new d) && covers c e
 
 -- the parts of the entry that the command makes
-pub record Parts : Type 0 where
+pub record CommandParts : Type 0 where
   pub path : List (List ℕ)
   pub kind : Kind
   pub value : Scalar
 
-abbrev pub parts_of : Command → Option Parts
-parts_of (Set p v) = Some (record { path = p; kind = Reg; value = v })
-parts_of (Add p v) = Some (record { path = p; kind = Elem; value = v })
-parts_of c = None
+abbrev pub command_parts : Command → Option CommandParts
+command_parts (Set p v) = Some (record { path = p; kind = Reg; value = v })
+command_parts (Add p v) = Some (record { path = p; kind = Elem; value = v })
+command_parts c = None
 
 -- one number raised by an amount, and all others as they were
 abbrev pub AreRaised : Counted → Place → ℕ → Counted → Type 0

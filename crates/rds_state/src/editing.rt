@@ -11,7 +11,7 @@ ghost use Rattle.rds_life.specs.Life.{Live, live_rows};
 ghost use Rattle.rds_names.specs.declared.entry.Entry.{Entry};
 ghost use Rattle.rds_names.specs.declared.fault.Fault.TheVariants.{Memory};
 ghost use Rattle.rds_names.specs.Entry.{HasParts};
-ghost use Rattle.rds_state.specs.Chosen.{is_chosen, parts_of, Parts, AreRaised};
+ghost use Rattle.rds_state.specs.Chosen.{is_chosen, command_parts, CommandParts, AreRaised};
 ghost use Rattle.rds_state.specs.Edit.{covers, JoinsEffect, new_dot, makes_pair, needs_room, own_top, path_fault};
 ghost use Rattle.rds_state.specs.Edit.{refusal, seq_fault, count_fault, IsDue};
 ghost use Rattle.rds_dots.specs.Lacking.{dot_of};
@@ -104,8 +104,8 @@ fn put<S: DotSet, F: Found>(
     kind: Kind,
     value: &Scalar,
 ) -> Result<Edited, Fault>
-    requires parts { let parts : Parts = record { path = path.now; kind = kind; value = value.now } in
-        parts_of command.now ≡ Some parts }
+    requires parts { let parts : CommandParts = record { path = path.now; kind = kind; value = value.now } in
+        command_parts command.now ≡ Some parts }
     requires found { (d : Dot) (e : Entry) → map.get state.old.lives d ≡ Some (Live e)
         → F.found found.now d e ≡ covers command.now e }
     ensures joined { IfOk result (λ _. JoinsEffect (coordinates state.old) own command.now (coordinates state.new)) }

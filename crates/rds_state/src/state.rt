@@ -8,7 +8,7 @@ ghost use Rattle.rds_counts.specs.declared.row.Which.TheVariants.{P, N};
 ghost use Rattle.rds_dots.specs.declared.dot.Dot.{Dot};
 ghost use Rattle.rds_dots.specs.Dots.{is_dot};
 ghost use Rattle.rds_life.specs.Killed.{but_for, killed_by};
-ghost use Rattle.rds_life.specs.Life.{AreCompatible, Live, MergeGives, live_rows};
+ghost use Rattle.rds_life.specs.Life.{LivesAreCompatible, Live, MergeGives, live_rows};
 ghost use Rattle.rds_state.specs.Chosen.{AreRaised};
 ghost use Rattle.rds_state.specs.Coordinates.{join};
 ghost use Rattle.rds_state.specs.Edit.{count_fault, makes_pair, IsDue};
@@ -145,7 +145,7 @@ impl<S: DotSet> State<S> {
     /// Joins the other state into this one, where they are known to have no conflict. The numbers are joined aside, so
     /// that all is as it was where there is no memory for the lives.
     fn merge_compatible(&mut self, other: &State<S>) -> Result<(), Fault>
-        requires compatible { AreCompatible self.old.lives other.now.lives }
+        requires compatible { LivesAreCompatible self.old.lives other.now.lives }
         ensures ok { OnOk result (coordinates self.new ≡ join (coordinates self.old) (coordinates other.now)) }
         ensures memory { IfErr result (λ fault. fault ≡ Memory) }
         ensures nothing { size other.now ≡ 0 → IsOk result }

@@ -3,7 +3,7 @@ use Rattle.std.proofs.Common.{◌≡◌, ◌⊎◌, inl, inr, ℕ, ◌≤◌, �
 use Rattle.std.specs.declared.alloc.Global.{Global}
 use Rattle.std.proofs.lemmas.List.{take_all, take-append-le}
 use Rattle.std.proofs.lemmas.Bool.{cases_lt}
-use Rattle.rds_journal.specs.Device.{Cut, Elapses, Follows, IsWrittenShort, Only, Torn}
+use Rattle.rds_journal.specs.Device.{Cut, Elapses, OutcomesFollow, IsWrittenShort, Only, Torn}
 use Rattle.rds_text_rows.specs.Disks.{Outcome, OutcomeAfter, OutcomeSince}
 use Rattle.rds_text_rows.specs.declared.disk.Call.{Call}
 use Rattle.rds_text_rows.specs.declared.disk.Call.TheVariants.{Write, Shorten, Sync}
@@ -42,11 +42,11 @@ elapses before old new call is =
 untorn : (at n : ℕ) (file : List ℕ) → Torn at n file file
 untorn at n file = record { before = refl; after = refl; no_shorter = omega arith; no_longer = omega arith }
 
-pub nothing_torn : (before : List ℕ → Type 0) (old new : List Call) (at n : ℕ) → new ≡ old → Follows (Torn at n) (Outcome before old) (Outcome before new)
+pub nothing_torn : (before : List ℕ → Type 0) (old new : List Call) (at n : ℕ) → new ≡ old → OutcomesFollow (Torn at n) (Outcome before old) (Outcome before new)
 nothing_torn before old new at n same c out = (c, subst (λ (l : List Call). Outcome before l c) same out, untorn at n c)
 
 pub write_torn : (before : List ℕ → Type 0) (old new : List Call) (at : ℕ) (v : Vec ℕ Global) (bytes : List ℕ) → v.items ≡ bytes → new ≡ old ++ Write at v ∷ []
-    → Follows (Torn at (length bytes)) (Outcome before old) (Outcome before new)
+    → OutcomesFollow (Torn at (length bytes)) (Outcome before old) (Outcome before new)
 write_torn before old new at v bytes same is c out =
     let from = last before old (Write at v) c (subst (λ (l : List Call). Outcome before l c) is out) in
     (from.0, from.1, subst (λ (b : List ℕ). Torn at (length b) from.0 c) same from.2)
@@ -54,10 +54,10 @@ write_torn before old new at v bytes same is c out =
 uncut : (n : ℕ) (file : List ℕ) → Cut n file file
 uncut n file = record { no_shorter = omega arith; front = take_all (length file) file (omega arith) }
 
-pub nothing_cut : (before : List ℕ → Type 0) (old new : List Call) (end : ℕ) → new ≡ old → Follows (Cut end) (Outcome before old) (Outcome before new)
+pub nothing_cut : (before : List ℕ → Type 0) (old new : List Call) (end : ℕ) → new ≡ old → OutcomesFollow (Cut end) (Outcome before old) (Outcome before new)
 nothing_cut before old new end same c out = (c, subst (λ (l : List Call). Outcome before l c) same out, uncut end c)
 
-pub cut_short : (before : List ℕ → Type 0) (old new : List Call) (end : ℕ) → new ≡ old ++ Shorten end ∷ [] → Follows (Cut end) (Outcome before old) (Outcome before new)
+pub cut_short : (before : List ℕ → Type 0) (old new : List Call) (end : ℕ) → new ≡ old ++ Shorten end ∷ [] → OutcomesFollow (Cut end) (Outcome before old) (Outcome before new)
 cut_short before old new end is c out = last before old (Shorten end) c (subst (λ (l : List Call). Outcome before l c) is out)
 
 pub synced : (before : List ℕ → Type 0) (old new : List Call) (v : Vec ℕ Global) (file : List ℕ) → v.items ≡ file → new ≡ old ++ Sync v ∷ [] → Only file (Outcome before new)

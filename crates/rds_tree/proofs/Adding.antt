@@ -12,7 +12,7 @@ use Rattle.std.specs.FinMap.{nat_cmp-IsAntisymmetric, slice_cmp-IsAntisymmetric}
 use Rattle.std.proofs.lemmas.List.Folds.{list_any-append}
 use Rattle.rds_names.specs.Conditions.{equal_of}
 use Rattle.rds_tree.specs.declared.leaf.Leaf.{Leaf}
-use Rattle.rds_tree.specs.Document.{key_cmp}
+use Rattle.rds_names.specs.Key.{key_cmp}
 use Rattle.rds_tree.specs.Row.{Row, under, at_end, rows_in_children, rows_in_node, is_filled, are_full, leaf_row}
 use Rattle.rds_tree.specs.Row.{AddsRow, AddsLeaf}
 use Rattle.rds_tree.proofs.Grouped.{found_full, full-set_value, set_value-same}

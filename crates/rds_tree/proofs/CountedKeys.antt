@@ -12,13 +12,14 @@ use Rattle.std.specs.FinMap.{nat_cmp-IsAntisymmetric, slice_cmp-IsAntisymmetric}
 use Rattle.rds_counts.specs.declared.row.CountRow.{CountRow}
 use Rattle.rds_counts.specs.declared.row.TheConstants.{MAX_COUNT}
 use Rattle.rds_counts.specs.Place.{Place}
-use Rattle.rds_counts.specs.Counted.{Above, Counted, counts_of, components, above, row_cmp, is_row, rows_rise}
+use Rattle.rds_counts.specs.Counted.{Above, Counted, counts_of, components, entry_above, row_cmp, is_row, rows_rise}
 use Rattle.rds_counts.specs.Counted.{AreCountRows}
 use Rattle.rds_counts.specs.Value.{value_of}
 use Rattle.rds_names.specs.Conditions.{and_left, and_right}
 use Rattle.rds_counts.specs.Entries.{entries-counts_of}
 use Rattle.rds_tree.specs.Distinct.{distinct}
-use Rattle.rds_tree.specs.Document.{key_cmp, counted_keys, sums_of}
+use Rattle.rds_tree.specs.Document.{counted_keys, sums_of}
+use Rattle.rds_names.specs.Key.{key_cmp}
 use Rattle.rds_tree.proofs.Distinct.{NoLess, Climbs, once_distinct}
 use Rattle.rds_tree.proofs.Members.{any-once}
 use Rattle.rds_tree.proofs.SameDocument.{any-map}
@@ -46,7 +47,7 @@ or_again false b = refl
 abbrev place_keys : List (Place × Above) → List (List ℕ)
 place_keys es = each (λ e. e.0.key) es
 
-any-above : (t : List ℕ → Bool) (p q : Place) (m n : ℕ) (es : List (Place × Above)) → q.key ≡ p.key → (nat_lt 0 m || nat_lt 0 n) ≡ true → list_any t (place_keys (above p m ++ (above q n ++ es))) ≡ (t p.key || list_any t (place_keys es))
+any-above : (t : List ℕ → Bool) (p q : Place) (m n : ℕ) (es : List (Place × Above)) → q.key ≡ p.key → (nat_lt 0 m || nat_lt 0 n) ≡ true → list_any t (place_keys (entry_above p m ++ (entry_above q n ++ es))) ≡ (t p.key || list_any t (place_keys es))
 any-above t p q zero zero es is h = absurd (cc)
 any-above t p q (suc m) zero es is h = refl
 any-above t p q zero (suc n) es is h = ap (λ k. t k || list_any t (place_keys es)) is

@@ -12,7 +12,7 @@ use Rattle.rds_names.specs.declared.fault.Fault.{Fault}
 use Rattle.rds_names.specs.Conditions.{and_true, and_left, and_right}
 use Rattle.rds_names.specs.declared.entry.Entry.{Entry}
 use Rattle.rds_dots.specs.declared.dot.Dot.{Dot}
-use Rattle.rds_dots.specs.Sets.{same_dot as dot_is}
+use Rattle.rds_dots.specs.Sets.{tied_dots_are_one as dot_is}
 use Rattle.rds_life.specs.Life.{Life, Live, Dead, Lived, is_dead, join_life, live_rows}
 use Rattle.rds_state.specs.Coordinates.{join}
 use Rattle.rds_state.specs.Fits.{ReplicaValue}

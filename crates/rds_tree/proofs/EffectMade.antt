@@ -22,7 +22,7 @@ use Rattle.rds_counts.specs.PlaceOrder.{place_exact}
 use Rattle.rds_counts.specs.declared.row.TheConstants.{MAX_COUNT}
 use Rattle.rds_counts.specs.declared.row.Which.TheVariants.{P, N}
 use Rattle.rds_life.specs.Life.{Life, Live, Dead, Lived, join_life}
-use Rattle.rds_state.specs.Chosen.{Parts, parts_of, same_dot, AreRaised}
+use Rattle.rds_state.specs.Chosen.{CommandParts, command_parts, same_dot, AreRaised}
 use Rattle.rds_state.specs.Coordinates.{Coordinates, join}
 use Rattle.rds_state.specs.Edit.{effect, effect_number, is_next, life_killed, life_made, number_raised, own_top}
 use Rattle.rds_state.specs.Edit.{count_fault, path_fault, seq_fault, IsDue, JoinsEffect}
@@ -42,7 +42,7 @@ use Rattle.rds_state.proofs.MadeLemmas.{made_is}
 pub no_count : (v : Counted) → v ≡ map.empty → (q : Place) → number v q ≡ 0
 no_count v none q = ap (λ m. number m q) none ∙ ap number_from (map.get-empty {X = Above} place_cmp q)
 
-no_number : (c : Command) (p : Parts) → parts_of c ≡ Some p → (a : Coordinates) (own : ℕ) (q : Place) → effect_number a own c q ≡ 0
+no_number : (c : Command) (p : CommandParts) → command_parts c ≡ Some p → (a : Coordinates) (own : ℕ) (q : Place) → effect_number a own c q ≡ 0
 no_number (Set q v) p is a own x = refl
 no_number (Add q v) p is a own x = refl
 no_number (Del q v) p is a own x = refl
@@ -59,7 +59,7 @@ module _ (a b : StateValue) (own : ℕ) where
   next d = is_next (coordinates a) own d
 
   -- the covered dots dead, and a new one live
-  pub put_is : (c : Command) (p : Parts) → parts_of c ≡ Some p → (e : Entry) → HasParts p.path p.kind p.value e → (new : Dot) → new ≡ dot_of own (own_top (coordinates a) own + 1) → (mid : Lived)
+  pub put_is : (c : Command) (p : CommandParts) → command_parts c ≡ Some p → (e : Entry) → HasParts p.path p.kind p.value e → (new : Dot) → new ≡ dot_of own (own_top (coordinates a) own + 1) → (mid : Lived)
       → ((d : Dot) → map.get mid d ≡ life_killed c (map.get a.lives d)) → b.lives ≡ map.insert mid new (Live e) → b.counts ≡ map.empty → coordinates b ≡ effect (coordinates a) own c (entry_made c)
   put_is c p is e has new at mid killed lives counts = same_coordinates _ _
       (λ d. ap (λ l. map.get l d) lives ∙ map.get-insert dots_total mid new (Live e) d
@@ -69,14 +69,14 @@ module _ (a b : StateValue) (own : ℕ) where
       (λ q. no_count b.counts counts q ∙ sym (no_number c p is (coordinates a) own q))
 
   -- no entry made: the lives, by those that it makes dead
-  pub kill_is : (c : Command) → parts_of c ≡ None → ((d : Dot) → map.get b.lives d ≡ life_killed c (map.get a.lives d)) → ((q : Place) → number b.counts q ≡ effect_number (coordinates a) own c q)
+  pub kill_is : (c : Command) → command_parts c ≡ None → ((d : Dot) → map.get b.lives d ≡ life_killed c (map.get a.lives d)) → ((q : Place) → number b.counts q ≡ effect_number (coordinates a) own c q)
       → coordinates b ≡ effect (coordinates a) own c (entry_made c)
   kill_is c none lives numbers = same_coordinates _ _
       (λ d. lives d ∙ cond_same (next d) (life_killed c (map.get a.lives d))
       ∙ ap (λ m. cond (next d) (life_made (entry_from m) (life_killed c (map.get a.lives d))) (life_killed c (map.get a.lives d))) (sym none))
       numbers
 
-  pub del_is : (c : Command) → parts_of c ≡ None → ((q : Place) → effect_number (coordinates a) own c q ≡ 0) → ((d : Dot) → map.get b.lives d ≡ life_killed c (map.get a.lives d)) → b.counts ≡ map.empty → coordinates b ≡ effect (coordinates a) own c (entry_made c)
+  pub del_is : (c : Command) → command_parts c ≡ None → ((q : Place) → effect_number (coordinates a) own c q ≡ 0) → ((d : Dot) → map.get b.lives d ≡ life_killed c (map.get a.lives d)) → b.counts ≡ map.empty → coordinates b ≡ effect (coordinates a) own c (entry_made c)
   del_is c none unraised lives counts = kill_is c none lives (λ q. no_count b.counts counts q ∙ sym (unraised q))
 
   no_life : b.lives ≡ map.empty → (d : Dot) → map.get b.lives d ≡ None

@@ -12,7 +12,7 @@ use Rattle.rds_dots.specs.declared.dot.Dot.{Dot}
 use Rattle.rds_dots.specs.Lacking.{dot_of}
 use Rattle.rds_dots.specs.Order.{dots_total, dots_exact}
 use Rattle.rds_life.specs.Life.{Life, Live, Dead, Lived, join_life, live_row, live_rows}
-use Rattle.rds_state.specs.Chosen.{Parts, parts_of}
+use Rattle.rds_state.specs.Chosen.{CommandParts, command_parts}
 use Rattle.rds_state.specs.Coordinates.{join}
 use Rattle.rds_state.specs.Edit.{covers, IsMade, is_next, life_made, life_killed, effect, own_top}
 use Rattle.rds_state.specs.Value.{StateValue, coordinates}
@@ -151,7 +151,7 @@ module _ (c : Command) (a b : StateValue) (own : ℕ) where
 
 -- ---- what commands make
 
-pub none_made : (c : Command) (made : Option Entry) → parts_of c ≡ None → IsMade c made → made ≡ None
+pub none_made : (c : Command) (made : Option Entry) → command_parts c ≡ None → IsMade c made → made ≡ None
 none_made (Set p v) made none is = cc none
 none_made (Add p v) made none is = cc none
 none_made (Del p v) made none is = is
@@ -159,10 +159,10 @@ none_made (Clear p) made none is = is
 none_made (Inc k by) made none is = is
 none_made (Dec k by) made none is = is
 
-abbrev pub MadeOf : Parts → Option Entry → Type 0
+abbrev pub MadeOf : CommandParts → Option Entry → Type 0
 MadeOf p made = (e : Entry) × ((made ≡ Some e) × HasParts p.path p.kind p.value e)
 
-pub one_made : (c : Command) (p : Parts) (made : Option Entry) → parts_of c ≡ Some p → IsMade c made → MadeOf p made
+pub one_made : (c : Command) (p : CommandParts) (made : Option Entry) → command_parts c ≡ Some p → IsMade c made → MadeOf p made
 one_made (Set q v) p (Some e) is h =
     let path : q ≡ p.path = cc is in
     let value : v ≡ p.value = cc is in

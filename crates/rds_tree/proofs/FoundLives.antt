@@ -14,7 +14,7 @@ use Rattle.rds_names.specs.declared.scalar.Scalar.TheVariants.{Null}
 use Rattle.rds_dots.specs.declared.dot.Dot.{Dot}
 use Rattle.rds_dots.specs.Dots.{dot_cmp, is_dot}
 use Rattle.rds_dots.specs.Order.{dots_total}
-use Rattle.rds_dots.specs.Sets.{same_dot as dot_is}
+use Rattle.rds_dots.specs.Sets.{tied_dots_are_one as dot_is}
 use Rattle.rds_life.specs.Life.{Life, Live, Dead, Lived, live_rows}
 use Rattle.rds_state.specs.CoveredDots.{covered_dots}
 use Rattle.rds_state.specs.Edit.{covers, life_killed}

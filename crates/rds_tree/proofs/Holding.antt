@@ -18,10 +18,10 @@ use Rattle.rds_dots.specs.declared.dot.Dot.{Dot}
 use Rattle.rds_dots.specs.Dots.{dot_cmp}
 use Rattle.rds_dots.specs.Lacking.{dot_of}
 use Rattle.rds_dots.specs.Order.{dots_total}
-use Rattle.rds_dots.specs.Sets.{same_dot as dot_is}
+use Rattle.rds_dots.specs.Sets.{tied_dots_are_one as dot_is}
 use Rattle.rds_life.specs.Killed.{is_same}
 use Rattle.rds_life.specs.Life.{Live, Lived, live_rows}
-use Rattle.rds_state.specs.Chosen.{Parts, parts_of}
+use Rattle.rds_state.specs.Chosen.{CommandParts, command_parts}
 use Rattle.rds_state.specs.Coordinates.{join}
 use Rattle.rds_state.specs.Edit.{covers, effect, own_top, is_reg, same_path, same_scalar, JoinsEffect}
 use Rattle.rds_state.specs.Value.{StateValue, coordinates}
@@ -30,7 +30,7 @@ use Rattle.rds_state.specs.declared.command.Command.TheVariants.{Set, Add, Del, 
 use Rattle.rds_state.proofs.CountLemmas.{same_dot-tied}
 use Rattle.rds_tree.specs.declared.leaf.Leaf.{Leaf}
 use Rattle.rds_tree.specs.Cuts.{covered_leaf, covering, found_at, goes, is_deep, is_leaf, path_covered, IsCut, IsRaise}
-use Rattle.rds_tree.specs.Document.{key_cmp}
+use Rattle.rds_names.specs.Key.{key_cmp}
 use Rattle.rds_tree.specs.Growing.{tree_row, Holds}
 use Rattle.rds_tree.specs.Held.{among_dots, at_value, IsGathered}
 use Rattle.rds_tree.specs.Row.{Row, leaf_row, AddsRow}
@@ -117,7 +117,7 @@ finds_gathered c path v tree dots at holds gathered d e live = gathered.any d e 
 
 -- ---- the tree after an edit
 
-pub holds_killed : (c : Command) (path : List (List ℕ)) (a b : StateValue) (own : ℕ) (old new : List Row) → path ≡ path_covered c → parts_of c ≡ None → Holds (live_rows a.lives) old → IsCut (covering c None) (is_deep c) path old new → JoinsEffect (coordinates a) own c (coordinates b) → Holds (live_rows b.lives) new
+pub holds_killed : (c : Command) (path : List (List ℕ)) (a b : StateValue) (own : ℕ) (old new : List Row) → path ≡ path_covered c → command_parts c ≡ None → Holds (live_rows a.lives) old → IsCut (covering c None) (is_deep c) path old new → JoinsEffect (coordinates a) own c (coordinates b) → Holds (live_rows b.lives) new
 holds_killed c path a b own old new at none holds cut joins = record {
   any = λ t.
       cut.any t ∙ holds.any (stays (covering c None) (is_deep c) path t)
@@ -128,7 +128,7 @@ holds_killed c path a b own old new at none holds cut joins = record {
     joined : joins.made ≡ None → coordinates b ≡ join (coordinates a) (effect (coordinates a) own c None)
     joined is = joins.joined ∙ ap (λ m. join (coordinates a) (effect (coordinates a) own c m)) is
 
-pub holds_raised : (c : Command) (a b : StateValue) (own : ℕ) (tree : List Row) → parts_of c ≡ None → ((e : Entry) → covers c e ≡ false) → Holds (live_rows a.lives) tree → JoinsEffect (coordinates a) own c (coordinates b) → Holds (live_rows b.lives) tree
+pub holds_raised : (c : Command) (a b : StateValue) (own : ℕ) (tree : List Row) → command_parts c ≡ None → ((e : Entry) → covers c e ≡ false) → Holds (live_rows a.lives) tree → JoinsEffect (coordinates a) own c (coordinates b) → Holds (live_rows b.lives) tree
 holds_raised c a b own tree none covers_none holds joins = record {
   any = λ t.
       holds.any t
@@ -149,7 +149,7 @@ apart v new d e unseen live = by (is_same new d) refl
     by true is = absurd (no_life (sym unseen ∙ ap (map.get v) (dot_is new d (same_dot-tied new d ∙ is)) ∙ live))
     by false is = refl
 
-pub shallow_parts : (c : Command) (p : Parts) → parts_of c ≡ Some p → (is_deep c ≡ false) × (p.path ≡ path_covered c)
+pub shallow_parts : (c : Command) (p : CommandParts) → command_parts c ≡ Some p → (is_deep c ≡ false) × (p.path ≡ path_covered c)
 shallow_parts (Set q v) p is = let path : p.path ≡ q = cc is in (refl, path)
 shallow_parts (Add q v) p is = let path : p.path ≡ q = cc is in (refl, path)
 shallow_parts (Del q v) p is = cc is
@@ -157,7 +157,7 @@ shallow_parts (Clear q) p is = cc is
 shallow_parts (Inc k by) p is = cc is
 shallow_parts (Dec k by) p is = cc is
 
-module _ (c : Command) (p : Parts) (is : parts_of c ≡ Some p) (a : StateValue) (own : ℕ) (new : Dot) (unseen : map.get a.lives new ≡ None) where
+module _ (c : Command) (p : CommandParts) (is : command_parts c ≡ Some p) (a : StateValue) (own : ℕ) (new : Dot) (unseen : map.get a.lives new ≡ None) where
   abbrev leaf : Leaf
   leaf = record { kind = p.kind; value = p.value; dot = new }
 
@@ -263,7 +263,7 @@ raise_covers (Clear p) is e = absurd is
 raise_covers (Inc k by) is e = refl
 raise_covers (Dec k by) is e = refl
 
-pub raise_parts : (c : Command) → IsRaise c → parts_of c ≡ None
+pub raise_parts : (c : Command) → IsRaise c → command_parts c ≡ None
 raise_parts (Set p v) is = absurd is
 raise_parts (Add p v) is = absurd is
 raise_parts (Del p v) is = refl

@@ -11,7 +11,8 @@ use Rattle.rds_names.specs.declared.entry.Kind.TheVariants.{Reg, Elem}
 use Rattle.rds_life.specs.Life.{live_rows}
 use Rattle.rds_counts.specs.Value.{value_of}
 use Rattle.rds_state.specs.Value.{StateValue}
-use Rattle.rds_tree.specs.Document.{Placed, entries_in, key_cmp, counted_keys, sums_of, document}
+use Rattle.rds_tree.specs.Document.{Placed, entries_in, counted_keys, sums_of, document}
+use Rattle.rds_names.specs.Key.{key_cmp}
 use Rattle.rds_names.specs.Orders.{scalar_cmp}
 use Rattle.rds_tree.specs.Shown.{Shown, maps_of}
 use Rattle.rds_tree.specs.Shows.{Ascend, IsInOrder, SumsAscend, map_keys}

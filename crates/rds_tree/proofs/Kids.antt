@@ -17,7 +17,8 @@ use Rattle.rds_names.specs.declared.scalar.Scalar.{Scalar}
 use Rattle.rds_names.specs.declared.entry.Kind.{Kind}
 use Rattle.rds_tree.specs.declared.leaf.Leaf.{Leaf}
 use Rattle.rds_tree.specs.Once.{once_is}
-use Rattle.rds_tree.specs.Document.{Placed, key_cmp}
+use Rattle.rds_tree.specs.Document.{Placed}
+use Rattle.rds_names.specs.Key.{key_cmp}
 use Rattle.rds_tree.specs.View.{keys_below, first_key, same_key, step_into, below, below_path, children}
 use Rattle.rds_tree.specs.Row.{Row, under, at_end, rows_in_children, rows_in_node, is_filled, are_full, placement}
 use Rattle.rds_tree.specs.Row.{placed_all}

@@ -10,13 +10,13 @@ use Rattle.std.specs.Map.{lookup}
 use Rattle.rds_names.specs.declared.entry.Entry.{Entry}
 use Rattle.rds_dots.specs.declared.dot.Dot.{Dot}
 use Rattle.rds_dots.specs.Dots.{dot_cmp}
-use Rattle.rds_dots.specs.Sets.{same_dot as dot_is}
+use Rattle.rds_dots.specs.Sets.{tied_dots_are_one as dot_is}
 use Rattle.rds_life.specs.Life.{Life, Live, Dead}
 use Rattle.rds_life.specs.Killed.{but_for, is_same, is_the, killed_by}
 use Rattle.rds_tree.specs.declared.leaf.Leaf.{Leaf}
 use Rattle.rds_tree.specs.Cuts.{goes, found_at, among, among_each, among_leaves}
 use Rattle.rds_tree.specs.Held.{is_but}
-use Rattle.rds_tree.specs.Document.{key_cmp}
+use Rattle.rds_names.specs.Key.{key_cmp}
 use Rattle.rds_tree.specs.Row.{Row, under, at_end, rows_in_node}
 use Rattle.rds_tree.proofs.Adding.{any-rows, no_keys}
 use Rattle.rds_tree.proofs.Cutting.{at_key, keys_exact, same_some, AreOthers, others_above, others_none, goes_all}

@@ -15,7 +15,7 @@ use Rattle.rds_dots.specs.declared.dot.Dot.{Dot}
 use Rattle.rds_dots.specs.declared.dot.TheConstants.{MAX_SEQ}
 use Rattle.rds_dots.specs.Dots.{dot_cmp}
 use Rattle.rds_dots.specs.Lacking.{dot_of}
-use Rattle.rds_dots.specs.Sets.{same_dot as dot_is}
+use Rattle.rds_dots.specs.Sets.{tied_dots_are_one as dot_is}
 use Rattle.rds_counts.specs.Counted.{number, place}
 use Rattle.rds_counts.specs.Place.{Place, place_cmp}
 use Rattle.rds_counts.specs.declared.row.Which.{Which}
@@ -30,7 +30,7 @@ use Rattle.rds_state.specs.declared.command.Command.TheVariants.{Set, Add, Del, 
 use Rattle.rds_state.specs.declared.command.Edited.{Edited}
 use Rattle.rds_state.specs.declared.mark.Mark.{Mark}
 use Rattle.rds_state.specs.Coordinates.{Coordinates, join}
-use Rattle.rds_state.specs.Chosen.{parts_of, Parts}
+use Rattle.rds_state.specs.Chosen.{command_parts, CommandParts}
 use Rattle.rds_state.specs.Edit.{covers, effect, effect_number, greatest, is_next, life_killed, own_top, path_fault, seq_fault, JoinsEffect}
 use Rattle.rds_state.specs.Fits.{ReplicaValue}
 use Rattle.rds_state.specs.Mark.{count_mark, mark_of, no_mark, plus}
@@ -326,7 +326,7 @@ edits_mark (Dec k by) old new edited rows_old rows_new own is =
     raises (Dec k by) old new k N (λ q other. ap (λ t. cond t (number old.state.counts q + by) 0) other) (λ e. refl) rows_old rows_new own is.joined is.joined.is_made
 
 -- what goes where a command makes an entry live is what it covers
-pub going_made : (c : Command) (p : Parts) → parts_of c ≡ Some p → (v : ReplicaValue) → going v c ≡ marks_of (filter (λ r. covers c r.1) (live_rows v.state.lives))
+pub going_made : (c : Command) (p : CommandParts) → command_parts c ≡ Some p → (v : ReplicaValue) → going v c ≡ marks_of (filter (λ r. covers c r.1) (live_rows v.state.lives))
 going_made (Set q x) p is v = refl
 going_made (Add q x) p is v = refl
 going_made (Del q x) p is v = absurd (cc)

@@ -11,7 +11,7 @@ use Rattle.rds_dots.specs.Ascending.{ascends, is_above}
 use Rattle.rds_dots.specs.declared.dot.Dot.{Dot}
 use Rattle.rds_dots.specs.Dots.{dot_cmp}
 use Rattle.rds_dots.specs.Order.{dots_total}
-use Rattle.rds_dots.specs.Sets.{same_dot as dot_is}
+use Rattle.rds_dots.specs.Sets.{tied_dots_are_one as dot_is}
 use Rattle.rds_life.specs.Life.{Life, Live, Dead, Lived, entry_of, is_dead, join_life, keys, live_rows}
 use Rattle.rds_life.proofs.RowLemmas.{find_above, find-row_if, rise_of, same_rows, sorted_of}
 use Rattle.rds_life.proofs.Views.{find-live_rows, rise-live_rows}

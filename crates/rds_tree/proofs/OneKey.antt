@@ -13,7 +13,8 @@ use Rattle.rds_names.specs.declared.entry.Kind.{Kind}
 use Rattle.rds_names.specs.declared.entry.Kind.TheVariants.{Reg, Elem}
 use Rattle.rds_counts.specs.Counted.{Counted}
 use Rattle.rds_counts.specs.Value.{value_of}
-use Rattle.rds_tree.specs.Document.{Placed, counted_keys, key_cmp, sums_of}
+use Rattle.rds_tree.specs.Document.{Placed, counted_keys, sums_of}
+use Rattle.rds_names.specs.Key.{key_cmp}
 use Rattle.rds_tree.specs.Gathered.{child_maps, map_under, view_under}
 use Rattle.rds_tree.specs.Once.{once_is}
 use Rattle.rds_tree.specs.Parts.{only_key, only_maps, only_rows}

@@ -17,7 +17,8 @@ use Rattle.rds_counts.specs.Value.{value_of}
 use Rattle.rds_state.specs.Document.{IsCounted, IsShown, value_in}
 use Rattle.rds_state.specs.Value.{StateValue, coordinates}
 use Rattle.rds_tree.specs.Once.{once_same}
-use Rattle.rds_tree.specs.Document.{Placed, entry_placed, entries_in, key_cmp, counted_keys, sums_of, document}
+use Rattle.rds_tree.specs.Document.{Placed, entry_placed, entries_in, counted_keys, sums_of, document}
+use Rattle.rds_names.specs.Key.{key_cmp}
 use Rattle.rds_tree.specs.SameDocument.{AreSameDocument}
 use Rattle.rds_tree.specs.View.{counters_shown, entries_view, view_of}
 use Rattle.rds_tree.proofs.SameView.{SameMembers, same_below_path, same_entries_view, any-filter_map, passes}

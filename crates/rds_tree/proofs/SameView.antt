@@ -11,7 +11,8 @@ use Rattle.rds_tree.specs.Once.{once_same}
 use Rattle.rds_names.specs.Orders.{scalar_cmp}
 use Rattle.rds_names.proofs.Orders.{scalars_exact}
 use Rattle.rds_tree.proofs.ScalarOrder.{scalars_total}
-use Rattle.rds_tree.specs.Document.{Placed, key_cmp}
+use Rattle.rds_tree.specs.Document.{Placed}
+use Rattle.rds_names.specs.Key.{key_cmp}
 use Rattle.rds_tree.specs.View.{keys_below, first_key, step_into, below, below_path, children, value_here, values_here}
 use Rattle.rds_tree.specs.View.{with_key, values_by_key, goes_deeper, is_below, shown_to, entries_view}
 use Rattle.rds_tree.specs.Gathered.{child_maps}

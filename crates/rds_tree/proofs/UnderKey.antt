@@ -16,7 +16,7 @@ use Rattle.std.proofs.lemmas.List.Sorted.{searchable_from_sorted}
 use Rattle.rds_counts.specs.declared.row.CountRow.{CountRow}
 use Rattle.rds_counts.specs.Counted.{rows_rise}
 use Rattle.rds_counts.proofs.Found.{rises_at}
-use Rattle.rds_tree.specs.Document.{key_cmp}
+use Rattle.rds_names.specs.Key.{key_cmp}
 use Rattle.rds_tree.specs.View.{same_key}
 use Rattle.rds_tree.proofs.Kids.{flip_eq}
 

@@ -9,7 +9,7 @@ use Rattle.std.specs.List.Sorted.{IsStrictlySortedBy}
 use Rattle.rds_names.specs.declared.scalar.Scalar.{Scalar}
 use Rattle.rds_names.specs.declared.entry.Kind.TheVariants.{Reg, Elem}
 use Rattle.rds_tree.specs.declared.leaf.Leaf.{Leaf}
-use Rattle.rds_tree.specs.Document.{key_cmp}
+use Rattle.rds_names.specs.Key.{key_cmp}
 use Rattle.rds_tree.specs.View.{values_by_key, values_here, with_key, goes_deeper, shown_to, children}
 use Rattle.rds_tree.specs.Gathered.{child_maps}
 use Rattle.rds_tree.specs.Row.{Row, rows_in_node, are_full, placed_all, placed_below}

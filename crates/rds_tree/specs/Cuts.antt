@@ -12,7 +12,7 @@ use Rattle.rds_state.specs.declared.command.Command.{Command}
 use Rattle.rds_state.specs.declared.command.Command.TheVariants.{Set, Add, Del, Clear, Inc, Dec}
 use Rattle.rds_state.specs.Edit.{is_reg, same_scalar}
 use Rattle.rds_tree.specs.declared.leaf.Leaf.{Leaf}
-use Rattle.rds_tree.specs.Document.{key_cmp}
+use Rattle.rds_names.specs.Key.{key_cmp}
 use Rattle.rds_tree.specs.Held.{at_value}
 use Rattle.rds_tree.specs.Row.{Row}
 use Rattle.rds_tree.specs.View.{is_that_kind}

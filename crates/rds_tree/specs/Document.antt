@@ -7,6 +7,7 @@ use Rattle.std.specs.declared.cmp.Ordering.{Ordering}
 use Rattle.rds_names.specs.declared.scalar.Scalar.{Scalar}
 use Rattle.rds_names.specs.declared.entry.Kind.{Kind}
 use Rattle.rds_names.specs.declared.entry.Entry.{Entry}
+use Rattle.rds_names.specs.Key.{key_cmp}
 use Rattle.rds_dots.specs.declared.dot.Dot.{Dot}
 use Rattle.rds_life.specs.Life.{live_rows}
 use Rattle.rds_counts.specs.Counted.{Counted}
@@ -23,10 +24,6 @@ pub record Placed : Type 0 where
 pub record Document : Type 0 where
   pub entries : List Placed
   pub sums : List (List ℕ × ℤ)
-
--- keys are ordered by their bytes
-abbrev pub key_cmp : List ℕ → List ℕ → Ordering
-key_cmp = slice_cmp nat_cmp
 
 -- each key once, ascending
 abbrev pub keys_once : List (List ℕ) → List (List ℕ)

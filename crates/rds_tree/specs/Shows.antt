@@ -10,7 +10,7 @@ use Rattle.rds_names.specs.declared.entry.Kind.{Kind}
 use Rattle.rds_names.specs.Entry.{HasParts}
 use Rattle.rds_state.specs.Document.{IsCounted, IsShown, value_in}
 use Rattle.rds_state.specs.Value.{StateValue, coordinates}
-use Rattle.rds_tree.specs.Document.{key_cmp}
+use Rattle.rds_names.specs.Key.{key_cmp}
 use Rattle.rds_names.specs.Orders.{scalar_cmp}
 use Rattle.rds_tree.specs.Shown.{Shown, shows, ShownMaps, no_maps, a_map}
 use Rattle.rds_tree.specs.View.{same_key}

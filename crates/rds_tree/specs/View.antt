@@ -8,7 +8,8 @@ use Rattle.rds_names.specs.declared.entry.Kind.TheVariants.{Reg, Elem}
 use Rattle.rds_tree.specs.Once.{once}
 use Rattle.rds_names.specs.Orders.{scalar_cmp}
 use Rattle.rds_tree.specs.Shown.{Shown, shows, no_maps, maps_of}
-use Rattle.rds_tree.specs.Document.{Document, Placed, key_cmp, keys_once}
+use Rattle.rds_tree.specs.Document.{Document, Placed, keys_once}
+use Rattle.rds_names.specs.Key.{key_cmp}
 
 -- each value once, ascending
 abbrev pub values_once : List Scalar → List Scalar

@@ -9,7 +9,7 @@ ghost use Rattle.rds_dots.specs.declared.dot.Dot.{Dot};
 ghost use Rattle.rds_dots.specs.Dots.{is_dot};
 ghost use Rattle.rds_life.specs.Life.{live_rows};
 ghost use Rattle.rds_names.specs.declared.fault.Fault.TheVariants.{Memory};
-ghost use Rattle.rds_state.specs.Chosen.{parts_of, Parts};
+ghost use Rattle.rds_state.specs.Chosen.{command_parts, CommandParts};
 ghost use Rattle.rds_state.specs.Edit.{count_fault, effect, life_killed, number_raised, refusal, IsDue};
 ghost use Rattle.rds_state.specs.Made.{entry_made};
 ghost use Rattle.rds_state.specs.Mark.{mark_of};
@@ -107,8 +107,8 @@ fn put<S: DotSet>(
     kind: Kind,
     value: &Scalar,
 ) -> Result<State<S>, Fault>
-    requires parts { let parts : Parts = record { path = path.now; kind = kind; value = value.now } in
-        parts_of command.now ≡ Some parts }
+    requires parts { let parts : CommandParts = record { path = path.now; kind = kind; value = value.now } in
+        command_parts command.now ≡ Some parts }
     requires holds { IfSome tree (λ t. Holds (live_rows replica.now.state.lives) t.now) }
     ensures ok { IfOk result (λ delta. coordinates delta
         ≡ effect (coordinates replica.now.state) replica.now.own command.now (entry_made command.now)) }

@@ -1,7 +1,7 @@
 //! Edits of a replica and of the tree of its live dots that make no entry live. What they cover is found in the tree.
 ghost use Rattle.std.specs.Prelude.{◌≡◌, None};
 ghost use Rattle.rds_life.specs.Life.{live_rows};
-ghost use Rattle.rds_state.specs.Chosen.{parts_of};
+ghost use Rattle.rds_state.specs.Chosen.{command_parts};
 ghost use Rattle.rds_state.specs.Results.{EditsReplica};
 ghost use Rattle.rds_tree.specs.Cuts.{path_covered, IsRaise};
 ghost use Rattle.rds_tree.specs.Growing.{Holds};
@@ -20,7 +20,7 @@ pub fn edit<S: DotSet>(
     tree: &mut Node,
     command: &Command,
 ) -> Result<Edited, Fault>
-    requires none { parts_of command.now ≡ None }
+    requires none { command_parts command.now ≡ None }
     requires holds { Holds (live_rows replica.old.state.lives) tree.old }
     ensures holds { Holds (live_rows replica.new.state.lives) tree.new }
     ensures edited { EditsReplica replica.old command.now result replica.new }
@@ -39,7 +39,7 @@ fn kill<S: DotSet>(
     path: &Path,
 ) -> Result<Edited, Fault>
     requires path { path.now ≡ path_covered command.now }
-    requires parts { parts_of command.now ≡ None }
+    requires parts { command_parts command.now ≡ None }
     requires holds { Holds (live_rows replica.old.state.lives) tree.old }
     ensures holds { Holds (live_rows replica.new.state.lives) tree.new }
     ensures edited { EditsReplica replica.old command.now result replica.new }

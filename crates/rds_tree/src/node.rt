@@ -7,7 +7,7 @@ ghost use Rattle.std.specs.Ordering.{is_eq};
 ghost use Rattle.rds_dots.specs.declared.dot.Dot.{Dot};
 ghost use Rattle.rds_life.specs.Killed.{but_for, killed_by};
 ghost use Rattle.rds_tree.specs.Cuts.{among, covered_leaf, found_at, is_deep, IsCut};
-ghost use Rattle.rds_tree.specs.Document.{key_cmp};
+ghost use Rattle.rds_names.specs.Key.{key_cmp};
 ghost use Rattle.rds_tree.specs.Held.{IsGathered};
 ghost use Rattle.std.specs.Option.{option_to_list};
 ghost use Rattle.rds_names.specs.declared.fault.Fault.TheVariants.{Memory};

@@ -1,7 +1,7 @@
 //! Edits of a replica and of the tree of its live dots that make an entry live.
 ghost use Rattle.std.specs.Prelude.{◌≡◌, [], None, Some, MatchOption};
 ghost use Rattle.rds_life.specs.Life.{live_rows};
-ghost use Rattle.rds_state.specs.Chosen.{parts_of, Parts};
+ghost use Rattle.rds_state.specs.Chosen.{command_parts, CommandParts};
 ghost use Rattle.rds_state.specs.Mark.{mark_of};
 ghost use Rattle.rds_state.specs.Results.{EditsReplica};
 ghost use Rattle.rds_tree.specs.Cuts.{covering, is_deep, IsCut};
@@ -28,13 +28,13 @@ pub struct Placed<'a> {
 impl<'a> Placed<'a> {
     /// Those of a command, if it makes an entry live.
     pub fn by(command: &'a Command) -> Option<Placed<'a>>
-        ensures { MatchOption result (parts_of command.now ≡ None)
-            (λ placed. let parts : Parts = record {
+        ensures { MatchOption result (command_parts command.now ≡ None)
+            (λ placed. let parts : CommandParts = record {
               path = placed.path.now;
               kind = placed.kind;
               value = placed.value.now;
             } in
-            parts_of command.now ≡ Some parts) }
+            command_parts command.now ≡ Some parts) }
     {
         match command {
             Command::Set(path, value) => Some(Placed {
@@ -65,12 +65,12 @@ pub fn put<S: DotSet>(
     command: &Command,
     placed: Placed<'_>,
 ) -> Result<Edited, Fault>
-    requires parts { let parts : Parts = record {
+    requires parts { let parts : CommandParts = record {
       path = placed.path.now;
       kind = placed.kind;
       value = placed.value.now;
     } in
-        parts_of command.now ≡ Some parts }
+        command_parts command.now ≡ Some parts }
     requires holds { Holds (live_rows replica.old.state.lives) tree.old }
     requires marked { mark.old ≡ mark_of replica.old.state }
     ensures holds { Holds (live_rows replica.new.state.lives) tree.new }

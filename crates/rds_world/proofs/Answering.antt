@@ -4,7 +4,7 @@ use Rattle.std.proofs.Common.{slice_get}
 use Rattle.rds_state.specs.Coordinates.{AtMost, AreCompatible}
 use Rattle.rds_state.proofs.JoinLaws.{reflexive, transitive}
 use Rattle.rds_world.specs.declared.event.Event.TheVariants.{Edit, Save, Crash, Ask, Answer, Take, Grow}
-use Rattle.rds_world.specs.World.{World, Happening, Of, AnswerLent, Question, Reply, start, lend, reply_from, after_reply}
+use Rattle.rds_world.specs.World.{World, Happening, Of, AnswerLent, Question, Reply, initial_world, lend, reply_from, after_reply}
 use Rattle.rds_world.specs.World.{after_answer, after_lent, after_take, next, run, Accepted}
 use Rattle.rds_world.specs.Coherent.{IsCoherent}
 use Rattle.rds_world.specs.Law.{world_after, BringsWhatWasKept}
@@ -103,24 +103,24 @@ module _ (w : World) (i : IsCoherent w) (lent : Question) (k : ℕ) (q : Questio
       }
 
 -- where it is one of a list
-module _ (n : List (List ℕ)) (es : List Happening) (a : Accepted es (start n)) (before later : List Happening) (e : Happening) (is : es ≡ before ++ e ∷ later) where
+module _ (n : List (List ℕ)) (es : List Happening) (a : Accepted es (initial_world n)) (before later : List Happening) (e : Happening) (is : es ≡ before ++ e ∷ later) where
   abbrev old : World
   old = world_after n before
 
-  whole : Accepted (before ++ e ∷ later) (start n)
-  whole = subst (λ fs. Accepted fs (start n)) is a
+  whole : Accepted (before ++ e ∷ later) (initial_world n)
+  whole = subst (λ fs. Accepted fs (initial_world n)) is a
 
   there : run (e ∷ later) old ≡ world_after n es
-  there = sym (run_on before (e ∷ later) (start n)) ∙ ap (λ fs. run fs (start n)) (sym is)
+  there = sym (run_on before (e ∷ later) (initial_world n)) ∙ ap (λ fs. run fs (initial_world n)) (sym is)
 
   it_brings : (lent : Question) (k : ℕ) (q : Question) → slice_get old.asks k ≡ Some q → next old e ≡ after_reply old lent k (Some q) → AreCompatible ((world_after n es).memory q.asker) lent.state
       → BringsWhatWasKept (world_after n es) (length old.answers) lent k q
   it_brings lent k q asked does agree =
-      let both = (accepted_on before (e ∷ later) (start n)).0 whole in
+      let both = (accepted_on before (e ∷ later) (initial_world n)).0 whole in
       subst (λ w. BringsWhatWasKept w (length old.answers) lent k q) there
-      (reply_brings old (run_coherent before (start n) (coherent_start n) both.0) lent k q asked e later does both.1 (subst (λ (w : World). AreCompatible (w.memory q.asker) lent.state) (sym there) agree))
+      (reply_brings old (run_coherent before (initial_world n) (coherent_start n) both.0) lent k q asked e later does both.1 (subst (λ (w : World). AreCompatible (w.memory q.asker) lent.state) (sym there) agree))
 
-pub each_answer_brings : (n : List (List ℕ)) (es : List Happening) → Accepted es (start n) → (before later : List Happening) (s k : ℕ) (q : Question) → es ≡ before ++ Of (Answer s k) ∷ later
+pub each_answer_brings : (n : List (List ℕ)) (es : List Happening) → Accepted es (initial_world n) → (before later : List Happening) (s k : ℕ) (q : Question) → es ≡ before ++ Of (Answer s k) ∷ later
     → slice_get (world_after n before).asks k ≡ Some q → BringsWhatWasKept (world_after n es) (length (world_after n before).answers) (lend (world_after n before) s) k q
 each_answer_brings n es a before later s k q is asked =
     let w = world_after n before in
@@ -128,7 +128,7 @@ each_answer_brings n es a before later s k q is asked =
     it_brings n es a before later e is (lend w s) k q asked (ap (after_answer w s k) asked)
     (subst (λ fs. AreCompatible ((world_after n fs).memory q.asker) (w.kept s)) (sym is) (kept_agrees n before (e ∷ later) (whole n es a before later e is) q.asker s))
 
-pub each_lent_brings : (n : List (List ℕ)) (es : List Happening) → Accepted es (start n) → (before later : List Happening) (j k : ℕ) (p q : Question) → es ≡ before ++ AnswerLent j k ∷ later
+pub each_lent_brings : (n : List (List ℕ)) (es : List Happening) → Accepted es (initial_world n) → (before later : List Happening) (j k : ℕ) (p q : Question) → es ≡ before ++ AnswerLent j k ∷ later
     → slice_get (world_after n before).asks j ≡ Some p → slice_get (world_after n before).asks k ≡ Some q → BringsWhatWasKept (world_after n es) (length (world_after n before).answers) p k q
 each_lent_brings n es a before later j k p q is lent asked =
     let w = world_after n before in
@@ -136,4 +136,4 @@ each_lent_brings n es a before later j k p q is lent asked =
     let last = world_after n es in
     let stays : slice_get last.asks j ≡ Some p = subst (λ (v : World). slice_get v.asks j ≡ Some p) (there n es a before later e is) (asks_run (e ∷ later) w j p lent) in
     it_brings n es a before later e is p k q asked (ap (λ o. after_lent w o k) lent ∙ ap (after_reply w p k) asked)
-    (agree_in last (run_coherent es (start n) (coherent_start n) a) (last.memory q.asker) p.state (of_memory q.asker) (of_ask j p stays))
+    (agree_in last (run_coherent es (initial_world n) (coherent_start n) a) (last.memory q.asker) p.state (of_memory q.asker) (of_ask j p stays))

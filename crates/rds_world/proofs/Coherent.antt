@@ -20,7 +20,7 @@ use Rattle.rds_state.proofs.JoinLaws.{reflexive, transitive, above_left, compati
 use Rattle.rds_delta.specs.Ranks.{ranks}
 use Rattle.rds_world.specs.declared.event.Event.{Event}
 use Rattle.rds_world.specs.declared.event.Event.TheVariants.{Edit, Save, Crash, Ask, Answer, Take, Grow}
-use Rattle.rds_world.specs.World.{World, Happening, Of, AnswerLent, Question, Reply, empty, put, start, after_edit, lend}
+use Rattle.rds_world.specs.World.{World, Happening, Of, AnswerLent, Question, Reply, empty, put, initial_world, after_edit, lend}
 use Rattle.rds_world.specs.World.{reply_from, after_reply, after_lent, after_take, after, refusal_of, next, hindrance, run}
 use Rattle.rds_world.specs.World.{Accepted}
 use Rattle.rds_world.specs.Coherent.{Position, AtMemory, AtKept, AtAsk, AtAnswer, state_asked, state_answered}
@@ -362,7 +362,7 @@ event_coherent w i (Answer s k) ok = answer_coherent w i s k (is_there s w.repli
 event_coherent w i (Take k) ok = take_coherent w i k (slice_get w.answers k) refl
 event_coherent w i (Grow r name) ok = grow_coherent w i r name
 
-is_empty : (n : List (List ℕ)) (p : Position) (a : Coordinates) → state_at_position (start n) p ≡ Some a → empty ≡ a
+is_empty : (n : List (List ℕ)) (p : Position) (a : Coordinates) → state_at_position (initial_world n) p ≡ Some a → empty ≡ a
 is_empty n (AtMemory s) a e = same_some empty a e
 is_empty n (AtKept s) a e = same_some empty a e
 is_empty n (AtAsk k) a e = cc
@@ -371,7 +371,7 @@ is_empty n (AtAnswer k) a e = cc
 pub empty_fits : (n : ℕ) → Fits n empty
 empty_fits n = record { dots = λ d p. cc; numbers = λ q p. absurd (omega arith) }
 
-pub coherent_start : (ns : List (List ℕ)) → IsCoherent (start ns)
+pub coherent_start : (ns : List (List ℕ)) → IsCoherent (initial_world ns)
 coherent_start ns = record {
   compatible = λ p q a b d e. subst (λ x. AreCompatible x b) (is_empty ns p a d) (subst (AreCompatible empty) (is_empty ns q b e) (compatible_same empty));
   fits = λ p a d. subst (Fits (length ns)) (is_empty ns p a d) (empty_fits (length ns));

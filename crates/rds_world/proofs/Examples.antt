@@ -7,7 +7,7 @@ use Rattle.rds_dots.specs.Lacking.{dot_of}
 use Rattle.rds_life.specs.Life.{entry_of}
 use Rattle.rds_state.specs.Edit.{greatest, own_top, seq_fault}
 use Rattle.rds_state.specs.Made.{entry_made}
-use Rattle.rds_world.specs.World.{empty, start, run, Accepted}
+use Rattle.rds_world.specs.World.{empty, initial_world, run, Accepted}
 use Rattle.rds_world.specs.Example.{add_to_s, three, lost_and_again}
 
 none_top : (m : ℕ) → greatest (λ n. false) m ≡ 0
@@ -24,9 +24,9 @@ has_room t e = rw e refl
 room_at_first : seq_fault (own_top empty 0) ≡ None
 room_at_first = when (nat_lt (greatest (λ n. false) MAX_SEQ) MAX_SEQ) (has_room (greatest (λ n. false) MAX_SEQ) (none_top MAX_SEQ)) SeqFull
 
-pub accepted : Accepted lost_and_again (start three)
+pub accepted : Accepted lost_and_again (initial_world three)
 accepted = (room_at_first, (refl, (refl, (refl, (room_at_first, (refl, (refl, (refl, (refl, (refl, tt))))))))))
 
 -- what the second replica then has of the dot
-pub second_has : entry_of (((run lost_and_again (start three)).memory 1).life (dot_of 0 1)) ≡ entry_made (add_to_s 2)
+pub second_has : entry_of (((run lost_and_again (initial_world three)).memory 1).life (dot_of 0 1)) ≡ entry_made (add_to_s 2)
 second_has = rw (none_top MAX_SEQ) refl

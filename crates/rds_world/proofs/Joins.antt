@@ -8,7 +8,7 @@ use Rattle.rds_life.specs.Life.{Life, Live, Dead, IsNoLater, join_life}
 use Rattle.rds_state.specs.Coordinates.{Coordinates, AtMost, AreCompatible, join}
 use Rattle.rds_state.proofs.JoinLaws.{reflexive, transitive, antisymmetric, above_left, above_right}
 use Rattle.rds_world.specs.World.{empty}
-use Rattle.rds_world.specs.Held.{none, both}
+use Rattle.rds_world.specs.Held.{none, in_one_of}
 use Rattle.rds_world.specs.Updates.{IsJoinOf}
 
 -- The state is above each of the set, and at each coordinate it is unseen or 0, or what one of them has.
@@ -85,25 +85,25 @@ gathered_in at S V none here joined within is gathered = elim gathered [
 
 module _ (E : ℕ → Coordinates) (S U : ℕ → Bool) (a b : Coordinates) (j : IsGathered E S a) (k : IsGathered E U b) where
   abbrev LifeGathered : Dot → Type 0
-  LifeGathered d = (join_life (a.life d) (b.life d) ≡ None) ⊎ ((u : ℕ) × (both S U u ≡ true) × ((E u).life d ≡ join_life (a.life d) (b.life d)))
+  LifeGathered d = (join_life (a.life d) (b.life d) ≡ None) ⊎ ((u : ℕ) × (in_one_of S U u ≡ true) × ((E u).life d ≡ join_life (a.life d) (b.life d)))
 
   left_life : (d : Dot) → join_life (a.life d) (b.life d) ≡ a.life d → LifeGathered d
-  left_life d h = gathered_in (λ u. (E u).life d) S (both S U) None (a.life d) (join_life (a.life d) (b.life d)) (λ u. in_left (S u) (U u)) h (j.lives d)
+  left_life d h = gathered_in (λ u. (E u).life d) S (in_one_of S U) None (a.life d) (join_life (a.life d) (b.life d)) (λ u. in_left (S u) (U u)) h (j.lives d)
 
   right_life : (d : Dot) → join_life (a.life d) (b.life d) ≡ b.life d → LifeGathered d
-  right_life d h = gathered_in (λ u. (E u).life d) U (both S U) None (b.life d) (join_life (a.life d) (b.life d)) (λ u. in_right (S u) (U u)) h (k.lives d)
+  right_life d h = gathered_in (λ u. (E u).life d) U (in_one_of S U) None (b.life d) (join_life (a.life d) (b.life d)) (λ u. in_right (S u) (U u)) h (k.lives d)
 
   abbrev NumberGathered : Place → Type 0
-  NumberGathered q = (max (a.number q) (b.number q) ≡ 0) ⊎ ((u : ℕ) × (both S U u ≡ true) × ((E u).number q ≡ max (a.number q) (b.number q)))
+  NumberGathered q = (max (a.number q) (b.number q) ≡ 0) ⊎ ((u : ℕ) × (in_one_of S U u ≡ true) × ((E u).number q ≡ max (a.number q) (b.number q)))
 
   left_number : (q : Place) → max (a.number q) (b.number q) ≡ a.number q → NumberGathered q
-  left_number q h = gathered_in (λ u. (E u).number q) S (both S U) 0 (a.number q) (max (a.number q) (b.number q)) (λ u. in_left (S u) (U u)) h (j.numbers q)
+  left_number q h = gathered_in (λ u. (E u).number q) S (in_one_of S U) 0 (a.number q) (max (a.number q) (b.number q)) (λ u. in_left (S u) (U u)) h (j.numbers q)
 
   right_number : (q : Place) → max (a.number q) (b.number q) ≡ b.number q → NumberGathered q
-  right_number q h = gathered_in (λ u. (E u).number q) U (both S U) 0 (b.number q) (max (a.number q) (b.number q)) (λ u. in_right (S u) (U u)) h (k.numbers q)
+  right_number q h = gathered_in (λ u. (E u).number q) U (in_one_of S U) 0 (b.number q) (max (a.number q) (b.number q)) (λ u. in_right (S u) (U u)) h (k.numbers q)
 
   -- of two sets together
-  pub gathered_both : AreCompatible a b → IsGathered E (both S U) (join a b)
+  pub gathered_both : AreCompatible a b → IsGathered E (in_one_of S U) (join a b)
   gathered_both h = record {
     above = λ u s. elim (in_either (S u) (U u) s) [
       | inl p ↦ transitive _ _ _ (j.above u p) (above_left a b)

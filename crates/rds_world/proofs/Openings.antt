@@ -13,7 +13,7 @@ use Rattle.rds_counts.specs.Place.{Place, place_cmp}
 use Rattle.rds_life.specs.Life.{Life}
 use Rattle.rds_state.specs.Fits.{ReplicaValue}
 use Rattle.rds_state.specs.Value.{coordinates}
-use Rattle.rds_world.specs.World.{empty, start}
+use Rattle.rds_world.specs.World.{empty, initial_world}
 use Rattle.rds_world.specs.Stored.{WorldValue}
 use Rattle.rds_world.specs.Stands.{HoldsAsk, HoldsAnswer, state_of, AreAtTheirPlaces, HaveNames, Stands, IsNew, AreNew}
 use Rattle.rds_world.specs.Stands.{IsWhole, IsWorld}
@@ -55,7 +55,7 @@ module _ (v : WorldValue) (memory : AreNew v.roster v.memory (length v.memory)) 
       let few = new.count in
       elim whole [ inl none ↦ absurd (omega (arith, none, few, below)) | inr all ↦ same ∙ sym all ∙ sym many ]
 
-  pub stands_start : Stands v (start names)
+  pub stands_start : Stands v (initial_world names)
   stands_start = record {
     roster = refl;
     replicas = many;
@@ -78,12 +78,12 @@ module _ (v : WorldValue) (memory : AreNew v.roster v.memory (length v.memory)) 
     whole = whole;
     asks = λ k a e. absurd (let none : None ≡ Some a = sym (ap (λ l. slice_get l k) asks) ∙ e in cc);
     answers = λ k a e. absurd (let none : None ≡ Some a = sym (ap (λ l. slice_get l k) answers) ∙ e in cc);
-    model = ∣ record { world = start names; stands = stands_start; coherent = coherent_start names; rosters = rosters_start names } ∣₁;
+    model = ∣ record { world = initial_world names; stands = stands_start; coherent = coherent_start names; rosters = rosters_start names } ∣₁;
   }
 
 -- where there is a replica for each name, the model's names are all of them
-pub all_named : (v : WorldValue) (replicas : ℕ) (roster : RosterValue) → replicas ≡ length roster.names → Stands v (start (take replicas roster.names)) → Stands v (start roster.names)
-all_named v replicas roster all s = subst (λ names. Stands v (start names)) (take_all replicas roster.names (omega (arith, all))) s
+pub all_named : (v : WorldValue) (replicas : ℕ) (roster : RosterValue) → replicas ≡ length roster.names → Stands v (initial_world (take replicas roster.names)) → Stands v (initial_world roster.names)
+all_named v replicas roster all s = subst (λ names. Stands v (initial_world names)) (take_all replicas roster.names (omega (arith, all))) s
 
 -- ---- the replicas, one after the other
 

@@ -21,7 +21,7 @@ use Rattle.rds_delta.specs.Ranks.{ranks}
 use Rattle.rds_delta.proofs.LeastLaws.{least_part}
 use Rattle.rds_world.specs.declared.event.Event.{Event}
 use Rattle.rds_world.specs.declared.event.Event.TheVariants.{Edit, Save, Crash, Ask, Answer, Take, Grow}
-use Rattle.rds_world.specs.World.{World, Happening, Of, AnswerLent, Question, Reply, put, start, after_edit, lend}
+use Rattle.rds_world.specs.World.{World, Happening, Of, AnswerLent, Question, Reply, put, initial_world, after_edit, lend}
 use Rattle.rds_world.specs.World.{reply_from, after_reply, after_lent, after_take, after, refusal_of, next, hindrance, run}
 use Rattle.rds_world.specs.World.{Accepted}
 use Rattle.rds_world.specs.Coherent.{HasRosters}
@@ -39,7 +39,7 @@ effect_fits n r a c lt f = record {
   numbers = λ q p. elim (effect_number_own a r c q) [ inl z ↦ absurd (omega (arith, z, p)) | inr o ↦ omega (arith, o, lt) ];
 }
 
-pub rosters_start : (ns : List (List ℕ)) → HasRosters (start ns)
+pub rosters_start : (ns : List (List ℕ)) → HasRosters (initial_world ns)
 rosters_start ns = record { named = refl; own = λ r h. h; kept_within = λ r. omega arith; memory_within = λ r. omega arith; memory = λ r. empty_fits (length ns); kept = λ r. empty_fits (length ns); askers = λ k q e. cc; asks = λ k q e. cc; answers = λ k m e. cc }
 
 -- a replica that may grow the roster knows the whole of it

@@ -10,7 +10,7 @@ use Rattle.rds_state.specs.Fits.{ReplicaValue}
 use Rattle.rds_state.specs.Value.{coordinates}
 use Rattle.rds_world.specs.declared.event.Event.{Event}
 use Rattle.rds_world.specs.declared.event.Event.TheVariants.{Edit, Save, Crash, Ask, Answer, Take, Grow}
-use Rattle.rds_world.specs.World.{World, Of, Question, Reply, after, after_answer, after_take, run, start, Accepted}
+use Rattle.rds_world.specs.World.{World, Of, Question, Reply, after, after_answer, after_take, run, initial_world, Accepted}
 use Rattle.rds_world.specs.Coherent.{Store, Memory, Kept, state_in}
 use Rattle.rds_world.specs.Events.{IsAccepted, RefusesEvent, roster_after_event}
 use Rattle.rds_world.specs.Law.{Afterwards, Law, bases_after, held_after, world_after}
@@ -30,7 +30,7 @@ use Rattle.rds_world.proofs.Steps.{lawful}
 
 -- ---- one event more
 
-pub reaches_start : (roster : RosterValue) (v : WorldValue) (es : List Event) → es ≡ [] → v.roster ≡ roster → Stands v (start roster.names) → Reaches roster es v
+pub reaches_start : (roster : RosterValue) (v : WorldValue) (es : List Event) → es ≡ [] → v.roster ≡ roster → Stands v (initial_world roster.names) → Reaches roster es v
 reaches_start roster v es is same s = subst (λ fs. Reaches roster fs v) (sym is) (record { happened = tt; stands = s; of_roster = same })
 
 answer_roster : (w : World) (s k : ℕ) (o : Option Question) → (after_answer w s k o).roster ≡ w.roster
@@ -73,9 +73,9 @@ module _ (roster : RosterValue) (xs : List Event) (i : ℕ) (e : Event) (lt : i 
   pub reaches_more : (u : WorldValue) → u.roster ≡ roster_after_event v.roster e → IsAccepted v w e → Stands u (after w e) → Reaches roster (take (i + 1) xs) u
   reaches_more u same accepted stands =
       let more : take (i + 1) xs ≡ take i xs ++ e ∷ [] = take_more xs i e lt ∙ ap (λ x. take i xs ++ x ∷ []) is in
-      let last : world_after n (map Of (take i xs ++ e ∷ [])) ≡ after w e = run_last (take i xs) e (start n) in
+      let last : world_after n (map Of (take i xs ++ e ∷ [])) ≡ after w e = run_last (take i xs) e (initial_world n) in
       subst (λ es. Reaches roster es u) (sym more) (record {
-        happened = happens_last roster (take i xs) e (start n) reached.happened (record { value = v; of_roster = reached.of_roster; stands = reached.stands; accepted = accepted });
+        happened = happens_last roster (take i xs) e (initial_world n) reached.happened (record { value = v; of_roster = reached.of_roster; stands = reached.stands; accepted = accepted });
         stands = subst (Stands u) (sym last) stands;
         of_roster = same ∙ ap (λ r. roster_after_event r e) reached.of_roster ∙ sym (roster_goes_on roster w e) ∙ ap (roster_with_names roster) (sym last);
       })
@@ -99,15 +99,15 @@ module _ (roster : RosterValue) (xs : List Event) (i : ℕ) (e : Event) (lt : i 
 
 pub law_holds : Afterwards Law
 law_holds n es a =
-    let coherent = run_coherent es (start n) (coherent_start n) a in
+    let coherent = run_coherent es (initial_world n) (coherent_start n) a in
     let its = lawful n es a in
     record {
       coherent = coherent;
-      rosters = run_rosters es (start n) (rosters_start n) a;
+      rosters = run_rosters es (initial_world n) (rosters_start n) a;
       friends = friends (world_after n es) coherent;
       joins = store_join (held_after es).update (bases_after n es) (held_after es) (world_after n es) its;
       dots = explained (held_after es).update (bases_after n es) (held_after es) (world_after n es) its;
-      documents = λ le. store_shows (held_after es).update (bases_after n es) (held_after es) (world_after n es) its 256 refl (few_run es (start n) (rosters_start n) a le);
+      documents = λ le. store_shows (held_after es).update (bases_after n es) (held_after es) (world_after n es) its 256 refl (few_run es (initial_world n) (rosters_start n) a le);
       same = same_states (held_after es).update (bases_after n es) (held_after es) (world_after n es) its;
       answers = each_answer_brings n es a;
       lent = each_lent_brings n es a;
@@ -117,7 +117,7 @@ law_holds n es a =
 
 module _ (roster : RosterValue) (es : List Event) (v : WorldValue) (r : Reaches roster es v) where
   pub obeyed : Law roster.names (map Of es)
-  obeyed = law_holds roster.names (map Of es) (accepted_by_model roster es (start roster.names) r.happened)
+  obeyed = law_holds roster.names (map Of es) (accepted_by_model roster es (initial_world roster.names) r.happened)
 
   pub stored : (x : Store) (k : ℕ) (m : ReplicaValue) → slice_get (replicas_in v x) k ≡ Some m → state_in (world_after roster.names (map Of es)) x k ≡ coordinates m.state
   stored Memory k m e = r.stands.memory k ∙ ap state_of e

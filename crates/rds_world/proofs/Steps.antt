@@ -10,9 +10,9 @@ use Rattle.rds_state.specs.declared.command.Command.{Command}
 use Rattle.rds_state.proofs.JoinLaws.{reflexive, transitive}
 use Rattle.rds_world.specs.declared.event.Event.{Event}
 use Rattle.rds_world.specs.declared.event.Event.TheVariants.{Edit, Save, Crash, Ask, Answer, Take, Grow}
-use Rattle.rds_world.specs.World.{World, Happening, Of, AnswerLent, Question, Reply, empty, put, start, lend, reply_from}
+use Rattle.rds_world.specs.World.{World, Happening, Of, AnswerLent, Question, Reply, empty, put, initial_world, lend, reply_from}
 use Rattle.rds_world.specs.World.{after, after_reply, after_lent, after_take, refusal_of, next, hindrance, run, Accepted}
-use Rattle.rds_world.specs.Held.{Update, Remembered, Holdings, both, with_update, nothing_held, hold, remembers}
+use Rattle.rds_world.specs.Held.{Update, Remembered, Holdings, in_one_of, with_update, nothing_held, hold, remembers}
 use Rattle.rds_world.specs.Held.{remembers_lent, takes, held_next, holdings_after}
 use Rattle.rds_world.specs.Updates.{effect_of, bases_with, bases}
 use Rattle.rds_delta.proofs.LeastLaws.{grown_delta}
@@ -25,7 +25,7 @@ use Rattle.rds_world.proofs.Tables.{put_there}
 use Rattle.rds_world.proofs.Invariant.{IsRecorded, IsBacked, IsAsk, IsAnswer, Lawful, own, compatible, kept_own}
 
 -- at the beginning
-pub lawful_start : (T : ℕ → Update) (B : ℕ → Coordinates) (n : List (List ℕ)) → Lawful T B nothing_held (start n)
+pub lawful_start : (T : ℕ → Update) (B : ℕ → Coordinates) (n : List (List ℕ)) → Lawful T B nothing_held (initial_world n)
 lawful_start T B n = record {
   recorded = λ i k. absurd (omega arith);
   placed = λ i k. absurd (omega arith);
@@ -229,35 +229,35 @@ module _ (T : ℕ → Update) (B : ℕ → Coordinates) (h : Holdings) (w : Worl
   full_agrees : (r : ℕ) (m : Reply) (a : Remembered) (x : IsAnswer T B h w m a) → AreCompatible (w.memory r) x.full
   full_agrees r m a x = compatible T B h w l (h.memory r) a.held (w.memory r) x.full (l.memory r) x.join (own T B h w l r) (kept_own T B h w l a.held x.backed)
 
-  taken_join : (m : Reply) (a : Remembered) (x : IsAnswer T B h w m a) → IsGathered (effect_of T B) (both (h.memory m.asker) a.held) (join (w.memory m.asker) m.state)
-  taken_join m a x = subst (IsGathered (effect_of T B) (both (h.memory m.asker) a.held)) (sym (brings m a x))
+  taken_join : (m : Reply) (a : Remembered) (x : IsAnswer T B h w m a) → IsGathered (effect_of T B) (in_one_of (h.memory m.asker) a.held) (join (w.memory m.asker) m.state)
+  taken_join m a x = subst (IsGathered (effect_of T B) (in_one_of (h.memory m.asker) a.held)) (sym (brings m a x))
       (gathered_both (effect_of T B) (h.memory m.asker) a.held (w.memory m.asker) x.full (l.memory m.asker) x.join (full_agrees m.asker m a x))
 
   -- an own update that comes back was there
-  came_back : (m : Reply) (a : Remembered) (x : IsAnswer T B h w m a) (i : ℕ) → both (h.memory m.asker) a.held i ≡ true → (T i).replica ≡ m.asker → h.memory m.asker i ≡ true
+  came_back : (m : Reply) (a : Remembered) (x : IsAnswer T B h w m a) (i : ℕ) → in_one_of (h.memory m.asker) a.held i ≡ true → (T i).replica ≡ m.asker → h.memory m.asker i ≡ true
   came_back m a x i p e = either (h.memory m.asker i) (a.held i) p (λ q. q) (λ q. subst (λ r. h.memory r i ≡ true) e (l.within (T i).replica i (x.backed.backed i q)))
 
-  take_one : (m : Reply) (a : Remembered) → IsAnswer T B h w m a → Lawful T B (record h { memory = put h.memory m.asker (both (h.memory m.asker) a.held) }) (after_take w (Some m))
+  take_one : (m : Reply) (a : Remembered) → IsAnswer T B h w m a → Lawful T B (record h { memory = put h.memory m.asker (in_one_of (h.memory m.asker) a.held) }) (after_take w (Some m))
   take_one m a x = record {
     recorded = l.recorded;
     placed = l.placed;
-    few = λ s i. put_one (λ t S. S i ≡ true → i < h.size) h.memory m.asker (both (h.memory m.asker) a.held) (λ p. either (h.memory m.asker i) (a.held i) p (l.few m.asker i) (λ q. l.few (T i).replica i (l.within (T i).replica i (x.backed.backed i q)))) (λ t n. l.few t i) s;
-    within = λ s i. put_one (λ t S. h.kept t i ≡ true → S i ≡ true) h.memory m.asker (both (h.memory m.asker) a.held) (λ p. in_left (h.memory m.asker i) (a.held i) (l.within m.asker i p)) (λ t n. l.within t i) s;
-    closed = λ s i j. put_one (λ t S. S i ≡ true → (T i).past j ≡ true → S j ≡ true) h.memory m.asker (both (h.memory m.asker) a.held) (λ p q. either (h.memory m.asker i) (a.held i) p (λ y. in_left (h.memory m.asker j) (a.held j) (l.closed m.asker i j y q)) (λ y. in_right (h.memory m.asker j) (a.held j) (x.backed.closed i j y q))) (λ t n. l.closed t i j) s;
-    backed = λ s i. put_one (λ t S. S i ≡ true → ((T i).replica ≡ t) ⊎ (h.kept (T i).replica i ≡ true)) h.memory m.asker (both (h.memory m.asker) a.held) (λ p. either (h.memory m.asker i) (a.held i) p (l.backed m.asker i) (λ y. inr (x.backed.backed i y))) (λ t n. l.backed t i) s;
+    few = λ s i. put_one (λ t S. S i ≡ true → i < h.size) h.memory m.asker (in_one_of (h.memory m.asker) a.held) (λ p. either (h.memory m.asker i) (a.held i) p (l.few m.asker i) (λ q. l.few (T i).replica i (l.within (T i).replica i (x.backed.backed i q)))) (λ t n. l.few t i) s;
+    within = λ s i. put_one (λ t S. h.kept t i ≡ true → S i ≡ true) h.memory m.asker (in_one_of (h.memory m.asker) a.held) (λ p. in_left (h.memory m.asker i) (a.held i) (l.within m.asker i p)) (λ t n. l.within t i) s;
+    closed = λ s i j. put_one (λ t S. S i ≡ true → (T i).past j ≡ true → S j ≡ true) h.memory m.asker (in_one_of (h.memory m.asker) a.held) (λ p q. either (h.memory m.asker i) (a.held i) p (λ y. in_left (h.memory m.asker j) (a.held j) (l.closed m.asker i j y q)) (λ y. in_right (h.memory m.asker j) (a.held j) (x.backed.closed i j y q))) (λ t n. l.closed t i j) s;
+    backed = λ s i. put_one (λ t S. S i ≡ true → ((T i).replica ≡ t) ⊎ (h.kept (T i).replica i ≡ true)) h.memory m.asker (in_one_of (h.memory m.asker) a.held) (λ p. either (h.memory m.asker i) (a.held i) p (l.backed m.asker i) (λ y. inr (x.backed.backed i y))) (λ t n. l.backed t i) s;
     kept_backed = l.kept_backed;
-    line = λ s i j. put_one (λ t S. S i ≡ true → S j ≡ true → (T i).replica ≡ t → (T j).replica ≡ t → i < j → (T j).past i ≡ true) h.memory m.asker (both (h.memory m.asker) a.held) (λ p q e f. l.line m.asker i j (came_back m a x i p e) (came_back m a x j q f) e f) (λ t n. l.line t i j) s;
-    memory = λ s. put_two (λ t S f. IsGathered (effect_of T B) S f) h.memory w.memory m.asker (both (h.memory m.asker) a.held) (join (w.memory m.asker) m.state) (taken_join m a x) (λ t n. l.memory t) s;
+    line = λ s i j. put_one (λ t S. S i ≡ true → S j ≡ true → (T i).replica ≡ t → (T j).replica ≡ t → i < j → (T j).past i ≡ true) h.memory m.asker (in_one_of (h.memory m.asker) a.held) (λ p q e f. l.line m.asker i j (came_back m a x i p e) (came_back m a x j q f) e f) (λ t n. l.line t i j) s;
+    memory = λ s. put_two (λ t S f. IsGathered (effect_of T B) S f) h.memory w.memory m.asker (in_one_of (h.memory m.asker) a.held) (join (w.memory m.asker) m.state) (taken_join m a x) (λ t n. l.memory t) s;
     kept = l.kept;
-    asks = asks_stay (record h { memory = put h.memory m.asker (both (h.memory m.asker) a.held) }) (after_take w (Some m)) refl refl;
-    answers = answers_stay (record h { memory = put h.memory m.asker (both (h.memory m.asker) a.held) }) (after_take w (Some m)) refl refl;
+    asks = asks_stay (record h { memory = put h.memory m.asker (in_one_of (h.memory m.asker) a.held) }) (after_take w (Some m)) refl refl;
+    answers = answers_stay (record h { memory = put h.memory m.asker (in_one_of (h.memory m.asker) a.held) }) (after_take w (Some m)) refl refl;
   }
 
   take_keeps : (m : Option Reply) (a : Option Remembered) → Together (IsAnswer T B h w) m a → Lawful T B (takes h a) (after_take w m)
   take_keeps None None x = l
   take_keeps None (Some a) x = absurd x
   take_keeps (Some m) None x = absurd x
-  take_keeps (Some m) (Some a) x = subst (λ n. Lawful T B (record h { memory = put h.memory n (both (h.memory n) a.held) }) (after_take w (Some m))) x.same (take_one m a x)
+  take_keeps (Some m) (Some a) x = subst (λ n. Lawful T B (record h { memory = put h.memory n (in_one_of (h.memory n) a.held) }) (after_take w (Some m))) x.same (take_one m a x)
 
   module _ (r : ℕ) (c : Command) (lt : r < w.replicas) (ok : refusal (w.memory r) r c ≡ None) (tr : (T h.size).replica ≡ r) (tc : (T h.size).command ≡ c) (tp : (T h.size).past ≡ h.memory r) (tb : B h.size ≡ w.memory r) where
     same_effect : effect_of T B h.size ≡ effect (w.memory r) r c (entry_made c)
@@ -430,9 +430,9 @@ kept_agrees_from (e ∷ es) later base h w l ok r s = kept_agrees_from es later 
     (next_keeps (holdings_after (es ++ later) (held_next h e)).update (bases (es ++ later) (bases_with base h.size w e) (held_next h e) (next w e)) h w e l ok.0 (in_tables (es ++ later) base h w e)) ok.1 r s
 
 -- each memory is compatible with all that was kept at an earlier moment
-pub kept_agrees : (n : List (List ℕ)) (es later : List Happening) → Accepted (es ++ later) (start n) → (r s : ℕ) → AreCompatible ((run (es ++ later) (start n)).memory r) ((run es (start n)).kept s)
-kept_agrees n es later ok = kept_agrees_from es later (λ i. empty) nothing_held (start n) (lawful_start (holdings_after (es ++ later) nothing_held).update (bases (es ++ later) (λ i. empty) nothing_held (start n)) n) ok
+pub kept_agrees : (n : List (List ℕ)) (es later : List Happening) → Accepted (es ++ later) (initial_world n) → (r s : ℕ) → AreCompatible ((run (es ++ later) (initial_world n)).memory r) ((run es (initial_world n)).kept s)
+kept_agrees n es later ok = kept_agrees_from es later (λ i. empty) nothing_held (initial_world n) (lawful_start (holdings_after (es ++ later) nothing_held).update (bases (es ++ later) (λ i. empty) nothing_held (initial_world n)) n) ok
 
 -- after any list of events none of which is refused
-pub lawful : (n : List (List ℕ)) (es : List Happening) → Accepted es (start n) → Lawful (holdings_after es nothing_held).update (bases es (λ i. empty) nothing_held (start n)) (holdings_after es nothing_held) (run es (start n))
-lawful n es a = run_keeps es (λ i. empty) nothing_held (start n) (lawful_start (holdings_after es nothing_held).update (bases es (λ i. empty) nothing_held (start n)) n) a
+pub lawful : (n : List (List ℕ)) (es : List Happening) → Accepted es (initial_world n) → Lawful (holdings_after es nothing_held).update (bases es (λ i. empty) nothing_held (initial_world n)) (holdings_after es nothing_held) (run es (initial_world n))
+lawful n es a = run_keeps es (λ i. empty) nothing_held (initial_world n) (lawful_start (holdings_after es nothing_held).update (bases es (λ i. empty) nothing_held (initial_world n)) n) a

@@ -12,7 +12,7 @@ use Rattle.rds_state.specs.declared.command.Command.{Command}
 use Rattle.rds_delta.specs.Ranks.{ranks}
 use Rattle.rds_delta.specs.Least.{IsAbove}
 use Rattle.rds_world.specs.declared.event.Event.{Event}
-use Rattle.rds_world.specs.World.{World, Question, Reply, start, after_edit, after, refusal_of}
+use Rattle.rds_world.specs.World.{World, Question, Reply, initial_world, after_edit, after, refusal_of}
 
 -- where a state stands in a world
 pub data Position : Type 0 where
@@ -71,7 +71,7 @@ pub record IsCoherent (w : World) : Type 0 where
   pub answers_its : (k : ℕ) (m : Reply) → slice_get w.answers k ≡ Some m → AnswersIts w.asks m
 
 abbrev pub StartsCoherent : Type 0
-StartsCoherent = (ns : List (List ℕ)) → IsCoherent (start ns)
+StartsCoherent = (ns : List (List ℕ)) → IsCoherent (initial_world ns)
 
 abbrev pub KeepsCoherence : Type 0
 KeepsCoherence = (w : World) (e : Event) → IsCoherent w → refusal_of w e ≡ None → IsCoherent (after w e)
@@ -110,7 +110,7 @@ pub record HasRosters (w : World) : Type 0 where
   pub answers : (k : ℕ) (m : Reply) → slice_get w.answers k ≡ Some m → Fits m.names m.state × (m.names ≤ w.kept_names m.maker)
 
 abbrev pub StartsWithRosters : Type 0
-StartsWithRosters = (ns : List (List ℕ)) → HasRosters (start ns)
+StartsWithRosters = (ns : List (List ℕ)) → HasRosters (initial_world ns)
 
 abbrev pub KeepsRosters : Type 0
 KeepsRosters = (w : World) (e : Event) → HasRosters w → refusal_of w e ≡ None → HasRosters (after w e)

@@ -44,8 +44,8 @@ no_update = record { replica = 0; command = Clear []; past = none }
 abbrev pub nothing_held : Holdings
 nothing_held = record { size = 0; update = λ i. no_update; memory = λ r. none; kept = λ r. none; asks = []; answers = [] }
 
-abbrev pub both : (ℕ → Bool) → (ℕ → Bool) → ℕ → Bool
-both s t i = s i || t i
+abbrev pub in_one_of : (ℕ → Bool) → (ℕ → Bool) → ℕ → Bool
+in_one_of s t i = s i || t i
 
 abbrev pub with_update : (ℕ → Bool) → ℕ → ℕ → Bool
 with_update s n i = s i || i == n
@@ -60,7 +60,7 @@ remembers_lent h (Some lent) k = remembers h lent.held (slice_get h.asks k)
 
 abbrev pub takes : Holdings → Option Remembered → Holdings
 takes h None = h
-takes h (Some m) = record h { memory = put h.memory m.asker (both (h.memory m.asker) m.held) }
+takes h (Some m) = record h { memory = put h.memory m.asker (in_one_of (h.memory m.asker) m.held) }
 
 -- what is held after an event
 abbrev pub hold : Holdings → Event → Holdings

@@ -3,7 +3,7 @@ use Rattle.std.specs.Prelude.{◌≡◌, ℕ, ◌≤◌, Bool, true, is_some, le
 use Rattle.rds_dots.specs.declared.dot.Dot.{Dot}
 use Rattle.rds_state.specs.Coordinates.{Coordinates, AtMost, AreCompatible, join}
 use Rattle.rds_world.specs.declared.event.Event.TheVariants.{Answer}
-use Rattle.rds_world.specs.World.{World, Happening, Of, AnswerLent, Question, empty, start, lend, reply_from, run}
+use Rattle.rds_world.specs.World.{World, Happening, Of, AnswerLent, Question, empty, initial_world, lend, reply_from, run}
 use Rattle.rds_world.specs.World.{Accepted}
 use Rattle.rds_world.specs.Held.{Holdings, nothing_held, holdings_after}
 use Rattle.rds_world.specs.Coherent.{Store, Memory, Kept, state_in, HasRosters, IsCoherent, ReplicasAreFriends}
@@ -11,16 +11,16 @@ use Rattle.rds_world.specs.Updates.{bases, effect_of, IsJoinOf, IsExplained, Sho
 
 -- what is said of these first names and of what happens where nothing is refused
 abbrev pub Afterwards : (List (List ℕ) → List Happening → Type 0) → Type 0
-Afterwards P = (ns : List (List ℕ)) (es : List Happening) → Accepted es (start ns) → P ns es
+Afterwards P = (ns : List (List ℕ)) (es : List Happening) → Accepted es (initial_world ns) → P ns es
 
 abbrev pub world_after : List (List ℕ) → List Happening → World
-world_after ns es = run es (start ns)
+world_after ns es = run es (initial_world ns)
 
 abbrev pub held_after : List Happening → Holdings
 held_after es = holdings_after es nothing_held
 
 abbrev pub bases_after : List (List ℕ) → List Happening → ℕ → Coordinates
-bases_after ns es = bases es (λ u. empty) nothing_held (start ns)
+bases_after ns es = bases es (λ u. empty) nothing_held (initial_world ns)
 
 abbrev pub effects_after : List (List ℕ) → List Happening → ℕ → Coordinates
 effects_after ns es = effect_of (held_after es).update (bases_after ns es)

@@ -4,7 +4,7 @@ use Rattle.rds_names.specs.declared.fault.Fault.{Fault}
 use Rattle.rds_names.specs.declared.fault.Fault.TheVariants.{Memory}
 use Rattle.rds_names.specs.Roster.{RosterValue}
 use Rattle.rds_world.specs.declared.event.Event.{Event}
-use Rattle.rds_world.specs.World.{World, Of, after, start}
+use Rattle.rds_world.specs.World.{World, Of, after, initial_world}
 use Rattle.rds_world.specs.Stored.{WorldValue}
 use Rattle.rds_world.specs.Stands.{Stands}
 use Rattle.rds_world.specs.Events.{IsAccepted, RefusesEvent}
@@ -28,7 +28,7 @@ AllHappen roster (e ∷ es) w = Happens roster w e × AllHappen roster es (after
 
 -- all events happened, and the world stands for the model's after them
 pub record Reaches (roster : RosterValue) (es : List Event) (v : WorldValue) : Type 0 where
-  pub happened : AllHappen roster es (start roster.names)
+  pub happened : AllHappen roster es (initial_world roster.names)
   pub stands : Stands v (world_after roster.names (map Of es))
   pub of_roster : v.roster ≡ roster_with_names roster (world_after roster.names (map Of es))
 

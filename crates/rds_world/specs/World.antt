@@ -48,8 +48,8 @@ pub record World : Type 0 where
 abbrev pub empty : Coordinates
 empty = record { life = λ d. None; number = λ q. 0 }
 
-abbrev pub start : List (List ℕ) → World
-start ns = record {
+abbrev pub initial_world : List (List ℕ) → World
+initial_world ns = record {
   roster = ns;
   replicas = length ns;
   memory_names = λ r. length ns;

@@ -28,7 +28,7 @@ ghost use Rattle.rds_world.specs.Reached.{
 };
 ghost use Rattle.rds_world.specs.Stands.{WorldsHaveOneValue};
 ghost use Rattle.rds_world.specs.Steps.{StepsHaveOneResult};
-ghost use Rattle.rds_world.specs.World.{World, Happening, start, run, Accepted};
+ghost use Rattle.rds_world.specs.World.{World, Happening, initial_world, run, Accepted};
 
 /// In a coherent world every two states are compatible, whether in memory, kept, asked from or answered; what is kept
 /// lies below memory, and what was sent below what its sender has kept; and what others have of a replica, it has kept.
@@ -103,7 +103,7 @@ pub fn runs_go_on()
 /// A worked run: a crash loses an edit that another replica had asked for, its dot is used again with another entry,
 /// and each answer is taken. The function does nothing: its contract is what holds of this run.
 pub fn lost_dots_are_used_again()
-    ensures accepted { Accepted lost_and_again (start three) }
-    ensures again { entry_of (((run lost_and_again (start three)).memory 1).life (dot_of 0 1))
+    ensures accepted { Accepted lost_and_again (initial_world three) }
+    ensures again { entry_of (((run lost_and_again (initial_world three)).memory 1).life (dot_of 0 1))
         ≡ entry_made (add_to_s 2) }
 {}

@@ -11,7 +11,7 @@ ghost use Rattle.rds_world.specs.Simulation.{HasNoReplicas};
 ghost use Rattle.rds_world.specs.Stands.{Stands, AreNew, IsWhole};
 ghost use Rattle.rds_world.specs.Steps.{IsStep, IsStopped, MayGrow};
 ghost use Rattle.rds_world.specs.Stored.{ask_bytes_at, answer_bytes_at};
-ghost use Rattle.rds_world.specs.World.{World as ModelWorld, after, start};
+ghost use Rattle.rds_world.specs.World.{World as ModelWorld, after, initial_world};
 
 use crate::event::{Done, Event};
 use crate::messages;
@@ -64,7 +64,7 @@ impl<S: DotSet> Model for World<S> {
 impl<S: DotSet> World<S> {
     /// The replicas of the roster, all empty in memory and as kept, without asks or answers.
     pub fn new(alloc: Global, roster: Roster) -> Result<World<S>, Fault>
-        ensures start { IfOk result (λ world. Stands world (start roster.names)) }
+        ensures start { IfOk result (λ world. Stands world (initial_world roster.names)) }
         ensures roster { IfOk result (λ world. world.roster ≡ roster) }
         ensures memory { IfErr result (λ fault. fault ≡ Memory) }
     {
@@ -74,7 +74,7 @@ impl<S: DotSet> World<S> {
 
     /// The same, or a world without replicas.
     pub(crate) fn open(alloc: Global, roster: Roster) -> Result<World<S>, (World<S>, Fault)>
-        ensures start { IfOk result (λ world. Stands world (start roster.names)) }
+        ensures start { IfOk result (λ world. Stands world (initial_world roster.names)) }
         ensures nothing { IfErr result (λ e. HasNoReplicas e.0 e.1) }
         ensures roster { MatchResult result (λ world. world.roster ≡ roster) (λ e. e.0.roster ≡ roster) }
         ensures few { length roster.names ≤ 256 }
@@ -93,7 +93,7 @@ impl<S: DotSet> World<S> {
         requires memory { AreNew roster memory.items (length memory.items) }
         requires kept { AreNew roster kept.items (length memory.items) }
         requires whole { IsWhole roster memory.items }
-        ensures start { Stands result (start (take (length memory.items) roster.names)) }
+        ensures start { Stands result (initial_world (take (length memory.items) roster.names)) }
         ensures roster { result.roster ≡ roster }
         ensures memory { result.memory ≡ memory.items }
         ensures kept { result.kept ≡ kept.items }

@@ -2,7 +2,7 @@
 ghost use Rattle.std.specs.Prelude.{◌≡◌, IfErr, OnOk, OnErr};
 ghost use Rattle.rds_names.specs.declared.fault.Fault.TheVariants.{Device};
 ghost use Rattle.rds_keep.specs.Counted.{one_more};
-ghost use Rattle.rds_keep.specs.Parts.{Grows};
+ghost use Rattle.rds_keep.specs.Parts.{BytesGrow};
 
 use super::Counted;
 use rds_names::Fault;
@@ -17,7 +17,7 @@ impl<W: Write> Counted<W> {
     /// each that it fills, and the pane's bytes are written: so what was written before stays, whatever `fmt` does.
     /// `Device` is a call of the writer that failed, and never a `fmt` that gives up: then a beginning is written.
     pub fn write_shown<D: Display + Drop>(&mut self, text: D) -> Result<(), Fault>
-        ensures bytes { Grows (W.contents self.old.inner) (W.contents self.new.inner) }
+        ensures bytes { BytesGrow (W.contents self.old.inner) (W.contents self.new.inner) }
         ensures fault { IfErr result (λ e. e ≡ Device) }
         ensures steady { OnOk result (self.new.failed ≡ self.old.failed) }
         ensures counted { OnErr result (self.new.failed ≡ one_more self.old.failed) }

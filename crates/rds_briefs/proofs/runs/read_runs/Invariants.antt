@@ -4,7 +4,7 @@ use Rattle.rds_dots.specs.declared.dot.Dot.{Dot}
 use Rattle.rds_dots.specs.declared.dot.Run.{Run}
 use Rattle.rds_dots.specs.declared.dot.TheConstants.{MAX_SEQ}
 use Rattle.rds_dots.specs.Dots.{Dots}
-use Rattle.rds_dots.specs.Runs.{are_maximal, place}
+use Rattle.rds_dots.specs.Runs.{are_maximal, dot_place}
 use Rattle.rds_briefs.specs.BriefTexts.{runs_text}
 use Rattle.rds_briefs.proofs.RunSteps.{AreOf, AreRunsRead}
 use Rattle.rds_briefs.proofs.runs.read_runs.Given as goal
@@ -20,4 +20,4 @@ invariant-reading g l =
     }
 
 abbrev pub decreases-reading : goal.decreases-reading
-decreases-reading g l = 256 * 281474976710656 - place l.end.replica l.end.seq
+decreases-reading g l = 256 * 281474976710656 - dot_place l.end.replica l.end.seq

@@ -1,6 +1,6 @@
 use Rattle.std.proofs.Common.{◌≡◌, true, List, ℕ, [], ◌∷◌, subst, ap, ◌∙◌}
 use Rattle.rds_dots.specs.declared.dot.Run.{Run}
-use Rattle.rds_dots.specs.RunFacts.{parts_of}
+use Rattle.rds_dots.specs.RunFacts.{run_parts}
 use Rattle.rds_dots.specs.Runs.{are_maximal, runs_of}
 use Rattle.rds_briefs.specs.BriefTexts.{brief_run_text, runs_text}
 use Rattle.rds_briefs.proofs.Putting.{IsPutting, put_more, put_ends}
@@ -18,7 +18,7 @@ telling-preserved g c =
     let next = ap (runs_text live) c.in-Some.ensures.steps ∙ next_run_text live r rs in
     record {
       put = put_more old now c.put_run.new.text (brief_run_text live r) (runs_text live rs) whole (subst (λ (l : List ℕ). IsPutting old now l whole) next c.telling.invariant.put) c.put_run.ensures;
-      maximal = (parts_of r rs (subst (λ (l : List Run). are_maximal l ≡ true) c.in-Some.ensures.steps c.telling.invariant.maximal)).rest;
+      maximal = (run_parts r rs (subst (λ (l : List Run). are_maximal l ≡ true) c.in-Some.ensures.steps c.telling.invariant.maximal)).rest;
     }
 
 pub returns : goal.returns

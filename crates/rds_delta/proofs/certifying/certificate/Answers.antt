@@ -11,7 +11,7 @@ use Rattle.rds_delta.specs.declared.row.Row.{Row}
 use Rattle.rds_delta.specs.Digested.{rank_in, ranks_in}
 use Rattle.rds_delta.specs.Claims.{IsCertificate}
 use Rattle.rds_delta.specs.CounterRows.{counter_rows}
-use Rattle.rds_delta.specs.Rest.{rows_after, is_flat}
+use Rattle.rds_delta.specs.Rest.{claims_after, is_flat}
 use Rattle.rds_delta.proofs.Bounds.{certificate_within, number_most}
 use Rattle.rds_delta.proofs.Grouping.{one_certificate}
 use Rattle.rds_delta.proofs.Whole.{whole_certificate}
@@ -24,7 +24,7 @@ returns-clause-ok g c =
     let rs = c.rows.result.now in
     let dots = c.in_ok-rows.rows.items in
     let is : v.counts ≡ counts_of rs = sym c.counts-2.ensures ∙ c.rows.ensures.value in
-    let told = subst (λ (l : Lived). (more : List Row) → is_flat more ≡ true → dots ++ more ≡ rows_after (rank_in c.args.digest.now) l None more) c.lives.ensures c.in_ok-rows.ensures.ok in
+    let told = subst (λ (l : Lived). (more : List Row) → is_flat more ≡ true → dots ++ more ≡ claims_after (rank_in c.args.digest.now) l None more) c.lives.ensures c.in_ok-rows.ensures.ok in
     let all : c.push_counts.new.rows.items ≡ dots ++ counter_rows b.number rs = c.in_ok-push_counts.ensures.ok ∙ ap (λ (m : Counted). dots ++ counter_rows (number m) rs) c.counts.ensures in
     subst (IsCertificate b v) (sym (c.new.ensures ∙ all)) (whole_certificate b v rs c.rows.ensures.are_rows is dots told)
 

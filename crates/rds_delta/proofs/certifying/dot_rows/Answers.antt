@@ -2,7 +2,7 @@ use Rattle.std.proofs.Common.{◌≡◌, ◌<◌, ◌∙◌, ◌++◌, sym, ap, 
 use Rattle.rds_dots.specs.declared.dot.Dot.{Dot}
 use Rattle.rds_delta.specs.declared.row.Row.{Row}
 use Rattle.rds_delta.specs.Digested.{rank_in}
-use Rattle.rds_delta.specs.Rest.{row_of, after_of, rows_after}
+use Rattle.rds_delta.specs.Rest.{certified_row, after_of, claims_after}
 use Rattle.rds_delta.proofs.AfterLemmas.{step_none}
 use Rattle.rds_delta.proofs.ClaimedLemmas.{step_rows, fewer_left}
 use Rattle.rds_delta.proofs.NothingSent.{no_next_row}
@@ -20,12 +20,12 @@ pub telling-preserved : goal.telling-preserved
 telling-preserved g c = λ more flat.
     let peer = rank_in c.args.digest.now in
     let v = c.args.lives.now in
-    let rest = λ (d : Dot). rows_after peer v (Some d) more in
+    let rest = λ (d : Dot). claims_after peer v (Some d) more in
     let items : c.push.new.self.items ≡ c.telling.rows.items ++ c.row.result ∷ [] = c.in_ok-push-in-Some.ensures.items in
     ap (λ (l : List Row). l ++ rest c.last.result) items
     ∙ append_assoc c.telling.rows.items (c.row.result ∷ []) (rest c.last.result)
     ∙ ap (λ (r : Row). c.telling.rows.items ++ (r ∷ rest c.last.result)) c.row.ensures
-    ∙ ap (λ (d : Dot). c.telling.rows.items ++ (row_of c.in-Some.next ∷ rest d)) c.last.ensures
+    ∙ ap (λ (d : Dot). c.telling.rows.items ++ (certified_row c.in-Some.next ∷ rest d)) c.last.ensures
     ∙ ap (λ (l : List Row). c.telling.rows.items ++ l) (sym (step_rows peer v c.telling.after c.in-Some.next c.in-Some.ensures.next more flat))
     ∙ c.telling.invariant more flat
 

@@ -1,5 +1,5 @@
 use Rattle.std.proofs.Common.{◌∙◌, ◌++◌, ap, arith, length, refl}
-use Rattle.rds_fields.specs.Tags.{half_text}
+use Rattle.rds_fields.specs.Tags.{mark_half}
 use Rattle.rds_fields.proofs.TagTexts.{halves, length-mark, whole}
 use Rattle.rds_fields.proofs.tags.mark_in.Goals as goal
 
@@ -21,4 +21,4 @@ pub returns-clause-some : goal.returns-clause-some
 returns-clause-some c =
     whole c.args.digits.now 16 c.in_ok-high.high.now c.in_ok-high.low.now c.in_ok-high.ensures.cases
     ∙ ap (λ x. x ++ c.in_ok-high.low.now) c.in_ok-half_in.ensures.some
-    ∙ ap (λ x. half_text c.in_ok-half_in.field-0 ++ x) c.in_ok-half_in-2.ensures.some
+    ∙ ap (λ x. mark_half c.in_ok-half_in.field-0 ++ x) c.in_ok-half_in-2.ensures.some

@@ -2,7 +2,7 @@ use Rattle.std.proofs.Common.{◌≡◌, ◌∙◌, string_bytes}
 use Rattle.std.specs.Int.{to_be_bytes, w64}
 use Rattle.std.proofs.lemmas.Result.{IfOk-weaker}
 use Rattle.hex.specs.Hex.{encode_lower}
-use Rattle.rds_fields.specs.Tags.{half_text, tag_text}
+use Rattle.rds_fields.specs.Tags.{mark_half, tag_text}
 use Rattle.rds_fields.proofs.TagTexts.{are_ascii, joined}
 use Rattle.rds_fields.proofs.tags.tag_text.Goals as goal
 
@@ -22,7 +22,7 @@ returns c =
     record {
       ok = IfOk-weaker c.format.result _ (λ text. string_bytes text ≡ tag_text tag)
           (λ text is. is
-          ∙ joined (encode_lower tag.hash) (half_text tag.mark.high) (half_text tag.mark.low) c.text_of-hash.result.now c.text_of-high.result.now c.text_of-low.result.now
+          ∙ joined (encode_lower tag.hash) (mark_half tag.mark.high) (mark_half tag.mark.low) c.text_of-hash.result.now c.text_of-high.result.now c.text_of-low.result.now
           (c.text_of-hash.ensures ∙ c.hash_digits-hash.ensures) (c.text_of-high.ensures ∙ c.half_digits-high.ensures) (c.text_of-low.ensures ∙ c.half_digits-low.ensures))
           c.format.ensures.ok;
     }

@@ -1,6 +1,6 @@
 use Rattle.std.proofs.Common.{◌≡◌, ◌++◌, drop, map}
 use Rattle.serde_json.specs.View.{view}
-use Rattle.rds_http.specs.News.{path_data}
+use Rattle.rds_json.specs.Spelling.{path_data}
 use Rattle.rds_http.proofs.news.paths_value.Given as goal
 
 abbrev pub invariant-loop-path : goal.invariant-loop-path

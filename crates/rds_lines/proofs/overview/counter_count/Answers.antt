@@ -2,7 +2,7 @@ use Rattle.std.proofs.Common.{◌≡◌, [], drop, length, map as each, ap, arit
 use Rattle.std.specs.Option.{option_copied}
 use Rattle.std.proofs.lemmas.List.{drop_all}
 use Rattle.rds_tree.specs.Distinct.{distinct}
-use Rattle.rds_tree.specs.Document.{key_cmp}
+use Rattle.rds_names.specs.Key.{key_cmp}
 use Rattle.rds_lines.proofs.Overviews.{counted_by_rows}
 use Rattle.rds_lines.proofs.overview.counter_count.Goals as goal
 

@@ -1,7 +1,7 @@
 use Rattle.std.proofs.Common.{◌≡◌, ◌+◌, ◌≤◌, None, drop, length, map as each}
 use Rattle.std.specs.Option.{option_copied}
 use Rattle.rds_tree.specs.Distinct.{distinct}
-use Rattle.rds_tree.specs.Document.{key_cmp}
+use Rattle.rds_names.specs.Key.{key_cmp}
 use Rattle.rds_lines.proofs.overview.counter_count.Given as goal
 
 -- the keys so far, with those of the rows that are left

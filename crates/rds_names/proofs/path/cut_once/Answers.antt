@@ -3,7 +3,7 @@ use Rattle.std.proofs.lemmas.Iterator.{YieldsList-from_slice}
 use Rattle.std.proofs.lemmas.Iterator.Search.{position_from_yields_List}
 use Rattle.std.proofs.lemmas.Str.{IsCharBoundary-after_ascii}
 use Rattle.rds_names.proofs.Cuts.{is_slash, found, cut_none, cut_some}
-use Rattle.rds_names.specs.Path.{cut}
+use Rattle.rds_names.specs.Path.{segments}
 use Rattle.rds_names.proofs.path.cut_once.Goals.{After-position}
 use Rattle.rds_names.proofs.path.cut_once.Goals as goal
 
@@ -24,6 +24,6 @@ returns c =
     let at = cut_some c.args.text.now c.in_ok-at.at (sym (place_is (goal.at.returns c).After-position) ∙ c.in_ok-at.was) in
     let from_zero : c.in_ok-at.at - 0 ≡ c.in_ok-at.at = omega arith in
     let first : c.range.result.now ≡ take c.in_ok-at.at c.args.text.now = c.range.ensures.value ∙ ap (λ n. take n c.args.text.now) from_zero in (
-      at.parts ∙ (λ i. sym first i ∷ cut (sym c.range_from.ensures.value i)),
+      at.parts ∙ (λ i. sym first i ∷ segments (sym c.range_from.ensures.value i)),
       omega (arith, at.within, ap length c.range_from.ensures.value, length-drop (c.in_ok-at.at + 1) c.args.text.now),
     )

@@ -2,7 +2,7 @@ use Rattle.std.proofs.Common.{◌≡◌, ◌++◌, None, length, map as each}
 use Rattle.std.specs.Option.{option_copied}
 use Rattle.rds_counts.specs.Value.{value_of}
 use Rattle.rds_tree.specs.Distinct.{distinct}
-use Rattle.rds_tree.specs.Document.{key_cmp}
+use Rattle.rds_names.specs.Key.{key_cmp}
 use Rattle.rds_tree.proofs.counting.sums_of.Given as goal
 
 abbrev pub invariant-adding : goal.invariant-adding

@@ -1,6 +1,6 @@
 use Rattle.std.proofs.Common.{◌∙◌, ap}
 use Rattle.std.specs.FinMap as map
-use Rattle.rds_state.specs.Chosen.{parts_of}
+use Rattle.rds_state.specs.Chosen.{command_parts}
 use Rattle.rds_state.specs.Edit.{effect_number}
 use Rattle.rds_state.specs.Value.{coordinates}
 use Rattle.rds_tree.proofs.EffectMade.{dec_is, del_is, if_both, inc_is}
@@ -9,13 +9,13 @@ use Rattle.rds_tree.proofs.edit_delta.effect.Goals as goal
 pub returns-in_ok-lives-in-Del-clause-ok : goal.returns-in_ok-lives-in-Del-clause-ok
 returns-in_ok-lives-in-Del-clause-ok g c =
     let old = c.args.replica.now in
-    del_is old.state c.from_lives.result old.own c.args.command.now (ap parts_of c.in-Del.is) (λ q. ap (λ m. effect_number (coordinates old.state) old.own m q) c.in-Del.is)
+    del_is old.state c.from_lives.result old.own c.args.command.now (ap command_parts c.in-Del.is) (λ q. ap (λ m. effect_number (coordinates old.state) old.own m q) c.in-Del.is)
     (λ d. ap (λ l. map.get l d) c.from_lives.ensures.lives ∙ c.in_ok-lives-in-Del.ensures.ok d) c.from_lives.ensures.counts
 
 pub returns-in_ok-lives-in-Clear-clause-ok : goal.returns-in_ok-lives-in-Clear-clause-ok
 returns-in_ok-lives-in-Clear-clause-ok g c =
     let old = c.args.replica.now in
-    del_is old.state c.from_lives-in-Clear.result old.own c.args.command.now (ap parts_of c.in-Clear.is) (λ q. ap (λ m. effect_number (coordinates old.state) old.own m q) c.in-Clear.is)
+    del_is old.state c.from_lives-in-Clear.result old.own c.args.command.now (ap command_parts c.in-Clear.is) (λ q. ap (λ m. effect_number (coordinates old.state) old.own m q) c.in-Clear.is)
     (λ d. ap (λ l. map.get l d) c.from_lives-in-Clear.ensures.lives ∙ c.in_ok-lives-in-Clear.ensures.ok d) c.from_lives-in-Clear.ensures.counts
 
 pub returns-in-Inc-clause-ok : goal.returns-in-Inc-clause-ok

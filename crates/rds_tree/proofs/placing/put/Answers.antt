@@ -2,7 +2,7 @@ use Rattle.std.proofs.Common.{◌∙◌, List, [], ℕ, ap, length, subst, sym, 
 use Rattle.rds_dots.specs.declared.dot.Dot.{Dot}
 use Rattle.rds_life.specs.Life.{live_rows}
 use Rattle.rds_names.specs.declared.scalar.Scalar.{Scalar}
-use Rattle.rds_state.specs.Chosen.{Parts}
+use Rattle.rds_state.specs.Chosen.{CommandParts}
 use Rattle.rds_state.specs.Fits.{ReplicaValue}
 use Rattle.rds_tree.specs.Cuts.{covered_leaf, covering, found_at, is_deep, IsCut}
 use Rattle.rds_tree.specs.Growing.{Holds}
@@ -16,7 +16,7 @@ use Rattle.rds_tree.proofs.placing.put.Goals as goal
 
 pub edit_found-requires : goal.edit_found-requires
 edit_found-requires g c =
-    let p : Parts = record { path = c.args.placed.path.now; kind = c.args.placed.kind; value = c.args.placed.value.now } in
+    let p : CommandParts = record { path = c.args.placed.path.now; kind = c.args.placed.kind; value = c.args.placed.value.now } in
     let command = c.args.command.now in
     let tree = c.args.tree.now in
     let found = found_at (covered_leaf command) (is_deep command) c.keys.result.now tree in
@@ -28,7 +28,7 @@ edit_found-requires g c =
 
 pub cut_covered-requires : goal.cut_covered-requires
 cut_covered-requires g c =
-    let p : Parts = record { path = c.args.placed.path.now; kind = c.args.placed.kind; value = c.args.placed.value.now } in
+    let p : CommandParts = record { path = c.args.placed.path.now; kind = c.args.placed.kind; value = c.args.placed.value.now } in
     let command = c.args.command.now in
     let tree = c.args.tree.now in
     let mid = c.place.new.self in
@@ -50,7 +50,7 @@ cut_covered-requires g c =
 
 pub returns-in-Ok-clause-holds : goal.returns-in-Ok-clause-holds
 returns-in-Ok-clause-holds g c =
-    let p : Parts = record { path = c.args.placed.path.now; kind = c.args.placed.kind; value = c.args.placed.value.now } in
+    let p : CommandParts = record { path = c.args.placed.path.now; kind = c.args.placed.kind; value = c.args.placed.value.now } in
     let old = c.args.replica.now in
     let command = c.args.command.now in
     let tree = c.args.tree.now in
@@ -65,7 +65,7 @@ returns-in-Ok-clause-holds g c =
 
 pub returns-in-Ok-clause-marked : goal.returns-in-Ok-clause-marked
 returns-in-Ok-clause-marked g c =
-    let p : Parts = record { path = c.args.placed.path.now; kind = c.args.placed.kind; value = c.args.placed.value.now } in
+    let p : CommandParts = record { path = c.args.placed.path.now; kind = c.args.placed.kind; value = c.args.placed.value.now } in
     let old = c.args.replica.now in
     let command = c.args.command.now in
     let dots = c.place.new.dots.items in

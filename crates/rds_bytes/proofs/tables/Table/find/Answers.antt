@@ -2,7 +2,7 @@ use Rattle.std.proofs.Common.{◌≡◌, ℕ, List, Some, Result, Ok, Err, ap, s
 use Rattle.std.specs.Prelude.{IfOk, slice_get}
 use Rattle.std.proofs.lemmas.Bool.{ltb-true}
 use Rattle.std.proofs.lemmas.Option.{slice_get-get_or}
-use Rattle.rds_bytes.specs.Table.{number_of}
+use Rattle.rds_bytes.specs.Table.{table_number}
 use Rattle.rds_bytes.proofs.TableLaws.{number_at_place}
 use Rattle.rds_bytes.proofs.tables.Table.find.Goals as goal
 
@@ -22,5 +22,5 @@ returns-in-Some-clause-place c =
     let at : slice_get shown number ≡ Some found = slice_get-get_or shown number found (ltb-true number (length shown) (sym there.0)) ∙ ap (λ (k : List ℕ). Some k) (sym there.1) in
     let at_keys : slice_get keys number ≡ Some found = ap (λ (t : List (List ℕ)). slice_get t number) (sym slice) ∙ at in
     if_ok (λ key. key ≡ found) _ c.copy.result
-    (λ key is. ap (λ (t : List (List ℕ)). number_of t key) same ∙ number_at_place keys number key c.self.invariant (at_keys ∙ ap (λ (k : List ℕ). Some k) (sym is)))
+    (λ key is. ap (λ (t : List (List ℕ)). table_number t key) same ∙ number_at_place keys number key c.self.invariant (at_keys ∙ ap (λ (k : List ℕ). Some k) (sym is)))
     c.copy.ensures.ok

@@ -1,6 +1,6 @@
 use Rattle.std.proofs.Common.{◌≡◌, codes, map}
 use Rattle.std.specs.List.{list_any}
-use Rattle.rds_fields.specs.Tokens.{values_in}
+use Rattle.rds_fields.specs.Tokens.{field_values}
 use Rattle.rds_http.specs.Tags.{is_named_by}
 use Rattle.rds_http.proofs.conditions.Current.is_known.Given as goal
 
@@ -8,4 +8,4 @@ use Rattle.rds_http.proofs.conditions.Current.is_known.Given as goal
 abbrev pub invariant-loop-value : goal.invariant-loop-value
 invariant-loop-value l =
     list_any (is_named_by l.self) (map (λ v. v.bytes) l.value-iterator)
-    ≡ list_any (is_named_by l.self) (values_in l.headers (codes "if-none-match"))
+    ≡ list_any (is_named_by l.self) (field_values l.headers (codes "if-none-match"))

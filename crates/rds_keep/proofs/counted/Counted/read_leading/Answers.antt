@@ -3,7 +3,7 @@ use Rattle.std.specs.Io.{appended_bytes}
 use Rattle.std.proofs.KnownBytes.{Consumes-nil, Consumes-trans}
 use Rattle.std.proofs.lemmas.Grind.{common_steps}
 use Rattle.rds_feeds.specs.Pieces.{ReadsOn}
-use Rattle.rds_keep.specs.Feeding.{AreBytes}
+use Rattle.rds_keep.specs.Feeding.{EachIsByte}
 use Rattle.rds_keep.proofs.LedSoFar.{cut_refused, hashed_on, hashed_short, leads, led_cut, led_more, led_on, more_bytes}
 use Rattle.rds_keep.proofs.counted.Counted.read_leading.Goals as goal
 
@@ -13,7 +13,7 @@ reading-init g c = record {
   consumed = Consumes-nil (g.R.Read.remaining c.args.self.now.inner);
   same = λ more. refl;
   size = grind (arith, common_steps);
-  bytes = subst AreBytes (sym (append-nil c.args.front.items)) (rw c.as_slice.ensures.value at c.hold_bytes.ensures);
+  bytes = subst EachIsByte (sym (append-nil c.args.front.items)) (rw c.as_slice.ensures.value at c.hold_bytes.ensures);
   spent = omega arith;
   steady = refl;
   left = omega arith;

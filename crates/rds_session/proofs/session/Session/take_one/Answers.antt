@@ -1,6 +1,6 @@
 use Rattle.std.proofs.Common.{refl, sym, ap, ◌∙◌}
 use Rattle.rds_session.specs.Arriving.{Reading}
-use Rattle.rds_session.specs.Chunks.{scan, start}
+use Rattle.rds_session.specs.Chunks.{scan, start_of_chunks}
 use Rattle.rds_session.specs.Session.{Standing}
 use Rattle.rds_session.proofs.Runs.{over_is, ran_over, ran_on, ran_whole, ran_too_long, rest_less, with_under}
 use Rattle.rds_session.proofs.session.Session.take_one.Goals as goal
@@ -27,8 +27,8 @@ returns-in_ok-message-in-Whole-clause-ran g c =
     let going = sym (ap (λ (s : Standing). s.ended) c.self.view_is) ∙ c.in-Going.is in
     let e = rw c.in-Whole.is at c.in_ok-chunks.ensures.ok in
     let from = sym (ap (λ (r : Reading). scan c.args.piece.now r.under) c.under_way.ensures.chunks) in
-    ran_whole c.args.self.now (with_under c.under_way.new.self start) c.message.new.self c.args.send.now.items c.message.new.send.items c.args.piece.now c.in-Whole.rest.now c.in-Whole.message.came c.in-Whole.message.came
-    going (from ∙ e.0) (ap (λ (s : Standing). with_under s start) c.under_way.ensures.taken) refl c.in_ok-message-in-Whole.ensures.does
+    ran_whole c.args.self.now (with_under c.under_way.new.self start_of_chunks) c.message.new.self c.args.send.now.items c.message.new.send.items c.args.piece.now c.in-Whole.rest.now c.in-Whole.message.came c.in-Whole.message.came
+    going (from ∙ e.0) (ap (λ (s : Standing). with_under s start_of_chunks) c.under_way.ensures.taken) refl c.in_ok-message-in-Whole.ensures.does
 
 pub returns-in_ok-message-in-Whole-clause-less : goal.returns-in_ok-message-in-Whole-clause-less
 returns-in_ok-message-in-Whole-clause-less g c =

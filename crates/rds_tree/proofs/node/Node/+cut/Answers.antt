@@ -1,7 +1,7 @@
 use Rattle.std.proofs.Common.{sym, ◌∙◌, ap, refl, rules}
 use Rattle.std.specs.Map.{remove_entry}
 use Rattle.std.specs.Ordering.{is_eq}
-use Rattle.rds_tree.specs.Document.{key_cmp}
+use Rattle.rds_names.specs.Key.{key_cmp}
 use Rattle.rds_tree.specs.Row.{are_full}
 use Rattle.rds_tree.proofs.Cutting.{cut_leaves, cut_whole, empty_rows, cut_none, cut_some, cut_all, not_full, full_of}
 use Rattle.rds_tree.proofs.Grouped.{full-removed, full-set_value}

@@ -1,6 +1,6 @@
 use Rattle.std.proofs.Common.{◌≡◌, sym, ◌∙◌, ap, subst, refl}
 use Rattle.std.specs.BTreeMap.{insert_entry}
-use Rattle.rds_tree.specs.Document.{key_cmp}
+use Rattle.rds_names.specs.Key.{key_cmp}
 use Rattle.rds_tree.specs.Row.{rows_in_node, leaf_row, AddsRow, is_filled, are_full}
 use Rattle.rds_tree.proofs.Adding.{adds_leaf_at, adds_below, adds_child_at, grown_full, on_ok, on_err, written_back}
 use Rattle.rds_tree.proofs.Grouped.{full-inserted}
