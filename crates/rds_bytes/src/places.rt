@@ -100,7 +100,7 @@ fn has_room(bucket: &Bucket) -> bool
     last.number == 0
 }
 
-/// A number in four bytes, as texts and buckets have it. One that doesn't go into these is told as want of memory: none
+/// A number in four bytes, as texts and buckets have it. One that doesn't go into these is reported as `Memory`: none
 /// holds so many keys.
 pub fn in_four_bytes(number: usize) -> Result<u32, Fault>
     ensures number { IfOk result (λ given. given ≡ number) }

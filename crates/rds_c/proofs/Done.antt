@@ -53,7 +53,7 @@ does_text verb path text (Err fault) None new told gives edits = absurd edits
 other : (edited : Edited) (fault : Fault) → Ok edited ≡ Err fault → ⊥
 other edited fault is = absurd cc
 
--- where a line's edit was told as done, that was done which the line asks for
+-- where a line's edit was reported as done, that was done which the line asks for
 pub does_line : (asked : Result Command Fault) (before after : ReplicaValue) (done : Result Edited Fault) (status : ℕ) (told : EditedC) → MayEdit asked before done after → IfOk done (λ e. told ≡ edited_for_c e)
     → OnErr done (status ≢ 0) → status ≡ 0 → EditsDocument asked before after told
 does_line asked before after (Err fault) status told may tells refused ended = absurd (refused ended)

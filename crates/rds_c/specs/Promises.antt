@@ -78,7 +78,7 @@ IsNewReplica line own v = (roster : RosterValue) × (line_of line ≡ Ok (Roster
 
 -- ---- files
 
--- the replica was made of what a file's bytes hold, and is kept as it is; where their parts stand was told
+-- the replica was made of what a file's bytes hold, and is kept as it is; where their parts stand was reported
 pub record IsOpenedFrom (bytes : List ℕ) (told : LayoutC) (v : DraftValue) : Type 0 where
   pub layout : Layout
   pub stored : IsStored bytes v.document layout
@@ -106,7 +106,7 @@ SetsKept old new =
 abbrev pub Says : (DraftValue → List ℕ → Type 0) → (List ℕ → Type 0) → DraftValue → Type 0
 Says Text P v = (text : List ℕ) × Text v text × P text
 
--- a text is told (status 0), or left to be told (66), and the replica is as it was
+-- a text is reported (status 0), or left to be told (66), and the replica is as it was
 pub record TellsTextOf (Text : DraftValue → List ℕ → Type 0) (status : ℕ) (old new : Slot) (room : List ℕ) (n : ℕ)
     : Type 0 where
   pub told : status ≡ 0 → holds_of (Says Text (λ text. IsTold text room n)) (draft_in old)
@@ -125,7 +125,7 @@ pub record Responds (question : List ℕ) (v : ReplicaValue) (text : List ℕ) :
 
 -- ---- changing
 
--- that was done which was asked for, and what it did is told (status 0), or the replica is as it was
+-- that was done which was asked for, and what it did is reported (status 0), or the replica is as it was
 pub record Edits (asked : Result Command Fault) (status : ℕ) (old new : Slot) (told : EditedC) : Type 0 where
   pub done : status ≡ 0 → Changes (λ v w. EditsDocument asked v w told) old new
   pub kept : IsKeptUnlessDone status old new

@@ -1,4 +1,4 @@
--- What is told to C.
+-- What is reported to C.
 use Rattle.std.specs.Prelude.{◌≡◌, ◌⊎◌, ℕ, ◌-◌, ◌^◌, nat_lt, List, [], take, length, Option, Some}
 use Rattle.std.specs.Prelude.{None, Result, Ok, Err, String, string_bytes, if◌then◌else◌}
 use Rattle.std.specs.Global.{Global, Vec}
@@ -62,7 +62,7 @@ abbrev pub layout_for_c : Layout → LayoutC
 layout_for_c layout =
     record { takes_records = takes_records layout.format; snapshot = layout.snapshot; whole = layout.whole }
 
--- that was done which was asked for, and what it did is told
+-- that was done which was asked for, and what it did is reported
 pub record EditsDocument (asked : Result Command Fault) (before after : ReplicaValue) (told : EditedC) : Type 0 where
   pub command : Command
   pub asks : asked ≡ Ok command

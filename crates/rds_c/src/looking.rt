@@ -1,4 +1,4 @@
-//! What is told of the document in a slot.
+//! What is reported of the document in a slot.
 ghost use Rattle.std.specs.Prelude.{◌≡◌, IfOk, string_bytes};
 ghost use Rattle.rds_c.specs.Looks.{IsTextAt, IsWholeText};
 ghost use Rattle.rds_c.specs.Promises.{IsRecord, Responds, TellsText};
@@ -11,7 +11,7 @@ use rds_keep::encode_record;
 use rds_store::{Document, Draft, Fault, Mark};
 use std::alloc::Global;
 
-/// What is told at a path.
+/// What is reported at a path.
 #[derive(Clone, Copy)]
 pub enum Look {
     /// What the document shows there and below.
@@ -24,7 +24,7 @@ pub enum Look {
     Dump,
 }
 
-/// What is told of all of it.
+/// What is reported of all of it.
 #[derive(Clone, Copy)]
 pub enum Whole {
     /// The snapshot.

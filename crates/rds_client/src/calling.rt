@@ -114,8 +114,8 @@ impl<'a> Caller<'a> {
         self.destination.name()
     }
 
-    /// Makes a request, and answers the response where it was done, where what is asked for has the tag, or where it has
-    /// the lines of edits that were refused. Anything else is told on standard error.
+    /// Makes a request, and answers the response where it was done, where what is asked for has the tag, or where it
+    /// has the lines of edits that were refused. Anything else is reported on standard error.
     pub fn ask<H: Disk + Net>(
         &mut self,
         rt: &H,
@@ -258,8 +258,8 @@ pub fn name_in(node: &str) -> &str {
     name.strip_suffix('/').unwrap_or(name)
 }
 
-/// The node of this host and port, before the first call. Refuses as [`find_node`] does, and where the clock can't be read
-/// (`Device`), with a line on standard error.
+/// The node of this host and port, before the first call. Refuses as [`find_node`] does, and where the clock can't be
+/// read (`Device`), with a line on standard error.
 pub fn caller_of<'a, H: Disk + Net>(
     rt: &H,
     name: &'a str,

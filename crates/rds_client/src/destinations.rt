@@ -149,7 +149,7 @@ fn find_peer<'a, H: Net + Eprint + AllocGlobal>(
     Ok(destination_of(rt.alloc(), name, addresses, token)?)
 }
 
-// The addresses of a peer. None where it isn't found, which is told as of one that is lost.
+// The addresses of a peer. None where it isn't found, which is reported as of one that is lost.
 fn addresses_now<H: Net + Eprint + AllocGlobal>(
     rt: &H,
     name: &str,

@@ -18,7 +18,7 @@ pub enum Came {
     Text(String),
     /// The node closes.
     Close,
-    /// Nothing that is told.
+    /// Nothing that is reported.
     Other,
 }
 
@@ -83,8 +83,8 @@ impl Feed {
         }
     }
 
-    /// Takes the next frame, where it has come whole, and notes what answers a ping or a close. `Unframed` where it breaks
-    /// the protocol, and `TooLong` of one that is too long.
+    /// Takes the next frame, where it has come whole, and notes what answers a ping or a close. `Unframed` where it
+    /// breaks the protocol, and `TooLong` of one that is too long.
     pub fn take<H: RandomSource>(&mut self, rt: &H) -> Result<Option<Came>, Trouble> {
         let mut keys = Keys::new(rt);
         let status = self

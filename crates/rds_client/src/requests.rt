@@ -271,7 +271,7 @@ impl Talk {
         }
     }
 
-    /// Writes a request, with a body of these pieces. Where it fails, a beginning may be written.
+    /// Writes a request, with a body of these pieces. Where it fails, a prefix may be written.
     pub fn request(
         &mut self,
         destination: &Destination<'_>,
@@ -312,8 +312,8 @@ impl Talk {
         Ok(())
     }
 
-    /// Writes a request for what is told of changes: the connection is to be handed over to WebSocket, by a handshake of
-    /// this key (RFC 6455).
+    /// Writes a request for what is told of changes: the connection is to be handed over to WebSocket, by a handshake
+    /// of this key (RFC 6455).
     pub(crate) fn handshake(
         &mut self,
         destination: &Destination<'_>,
@@ -328,8 +328,8 @@ impl Talk {
     }
 
     /// Reads the response out of what came, as far as that goes. Answers it once it is whole, or once the connection is
-    /// handed over. `Foreign` where it says that the request was done, and its body isn't of the type that a node gives,
-    /// or where it hands over otherwise than was asked for.
+    /// handed over. `Foreign` where it says that the request was done, and its body isn't of the type that a node
+    /// gives, or where it hands over otherwise than was asked for.
     pub fn next(&mut self) -> Result<Option<Response>, Trouble> {
         for _ in 0..u64::MAX {
             let mut fields = [EMPTY_HEADER_SPAN; FIELDS];

@@ -34,7 +34,7 @@ const NAMED: [Fault; 16] = [
     Fault::Device,
 ];
 
-/// What is told of a peer that is forked.
+/// What is reported of a peer that is forked.
 pub const FORKED: &str = "has seen the same, and holds different entries: 28 Forked";
 
 /// Why an exchange with a peer broke off.
@@ -208,8 +208,8 @@ impl Trouble {
         }
     }
 
-    /// The fault that it is for who had the peer do something: the peer's own, where it refused that by one which says no
-    /// more than its name.
+    /// The fault that it is for who had the peer do something: the peer's own, where it refused that by one which says
+    /// no more than its name.
     pub(crate) fn refusal(&self) -> Fault {
         match self {
             Trouble::Refused(response) => match fault_in(&response.body) {
@@ -270,8 +270,8 @@ fn write_refusal<W: fmt::Write>(response: &Response, f: &mut fmt::Formatter<W>) 
     }
 }
 
-// Why a body says that a request wasn't let in, as `{"status":401,"text":"the token is due"}` does, where a terminal can
-// show that and it isn't long.
+// Why a body says that a request wasn't let in, as `{"status":401,"text":"the token is due"}` does, where a terminal
+// can show that and it isn't long.
 fn words_in(body: &[u8]) -> Option<&str> {
     let (_, rest) = str::from_utf8(body).ok()?.split_once("\"text\":\"")?;
     let (words, _) = rest.split_once('"')?;

@@ -1,4 +1,4 @@
--- What decoding promises leaves one answer to the same bytes, but for want of memory.
+-- What decoding promises leaves one answer to the same bytes, but for Memory.
 use Rattle.std.proofs.Common.{◌≡◌, ◌⊎◌, inl, inr, length, Result, Ok, Err, sym, ap, ◌∙◌}
 use Rattle.std.proofs.lemmas.Bool.{cases_lt}
 use Rattle.rds_names.specs.declared.fault.Fault.{Fault}

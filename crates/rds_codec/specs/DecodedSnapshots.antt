@@ -10,7 +10,7 @@ abbrev pub replica_in : Result Snapshot Fault → Result ReplicaValue Fault
 replica_in (Ok s) = Ok s.1
 replica_in (Err e) = Err e
 
--- the bytes are decoded as a snapshot in one of the formats, and its replica is told
+-- the bytes are decoded as a snapshot in one of the formats, and its replica is reported
 abbrev pub DecodesSnapshot : List ℕ → Result ReplicaValue Fault → Type 0
 DecodesSnapshot bytes result =
     (read : Result Snapshot Fault) × Decodes snapshot_kind_in bytes read × ReadsAll snapshot_in_at bytes read

@@ -15,7 +15,7 @@ pub record IsTextOf {V : Type 0} (kind : Kind V) (bytes : List ℕ) (v : V) : Ty
   pub is_value : kind.is_value v
   pub spelled : bytes ≡ kind.text v
 
--- a proper beginning of the bytes is a text
+-- a proper prefix of the bytes is a text
 pub record BeginsWithText {V : Type 0} (kind : Kind V) (bytes : List ℕ) : Type 0 where
   pub value : V
   pub rest : List ℕ
@@ -35,7 +35,7 @@ ReadsAll reader bytes result = length bytes ≤ LIMIT → Reads (λ v. v) result
 abbrev pub IsOtherFault : Fault → Type 0
 IsOtherFault e = (e ≡ Memory) ⊎ ((e ≡ TooLong) ⊎ ((e ≡ Extra) ⊎ ((e ≡ Cut) ⊎ (e ≡ Bad))))
 
--- Ok exactly at a text within the limit, TooLong exactly above it, Extra exactly where a proper beginning is a
+-- Ok exactly at a text within the limit, TooLong exactly above it, Extra exactly where a proper prefix is a
 -- text; else Cut or Bad, or memory ran out.
 pub record Decodes {V : Type 0} (kind : Kind V) (bytes : List ℕ) (result : Result V Fault) : Type 0 where
   pub value : IfOk result (λ v. (length bytes ≤ LIMIT) × IsTextOf kind bytes v)

@@ -176,7 +176,7 @@ fn replicas_of(left: &Roster, right: &Roster) -> u16
 /// texts are read with that roster. The answer that it took is handed back.
 ///
 /// Where what was asked fits the longer roster, no text is refused by the one that reads it, and no check says no. Only
-/// want of memory, too long a text or what [`Replica::take_with`] refuses of the answer's delta (`WrongGroup`,
+/// `Memory`, too long a text or what [`Replica::take_with`] refuses of the answer's delta (`WrongGroup`,
 /// `WrongRoster`, `OwnAhead`, `Conflict`) is a hindrance. Where the two are friends besides, and one of their rosters
 /// begins the other, no take finds a conflict or a loss either, and the one that asked ends with all that both knew,
 /// whatever it has become since. Elsewhere any of these may refuse it. What is refused has changed nothing.

@@ -141,7 +141,7 @@ fn measure(hello: &Hello) -> u128
     1 + member_length(&hello.roster, hello.own) as u128
 }
 
-/// The hello's text. It is short, so nothing but want of memory is a hindrance.
+/// The hello's text. It is short, so nothing but `Memory` is a hindrance.
 pub fn encode_hello(alloc: Global, hello: &Hello) -> Result<Vec<u8>, Fault>
     ensures text { Encodes (hello_text hello.now) result }
     ensures memory { IfErr result (λ fault. fault ≡ Memory) }
@@ -151,8 +151,8 @@ pub fn encode_hello(alloc: Global, hello: &Hello) -> Result<Vec<u8>, Fault>
     Ok(out)
 }
 
-/// The text of a hello is read again where its version is that of a format and its own number is below the roster's length.
-/// The function only measures: its contract is this law.
+/// The text of a hello is read again where its version is that of a format and its own number is below the roster's
+/// length. The function only measures: its contract is this law.
 pub fn hellos_have_texts(hello: &Hello)
     ensures value { is_version hello.now.version ≡ true → hello.now.own < length hello.now.roster.names → IsHello hello.now }
 {

@@ -61,7 +61,7 @@ pub fn formats_are_read_again()
         → all_of snapshot_in_at (snapshot_text_in s.0 s.1) ≡ Ok s }
 {}
 
-/// What decoding promises leaves one answer to the same bytes, but for want of memory: which of `Cut` and `Bad` a
+/// What decoding promises leaves one answer to the same bytes, but for `Memory`: which of `Cut` and `Bad` a
 /// refusal is follows from the bytes. The function does nothing: its contract is these laws.
 pub fn decoding_has_one_result()
     ensures states { (format : Format) (replicas : ℕ)

@@ -1,5 +1,5 @@
-//! The text of a snapshot in either format: four bytes that say the format, the roster, the replica's own number, and its
-//! state, of as many replicas as the roster has names.
+//! The text of a snapshot in either format: four bytes that say the format, the roster, the replica's own number, and
+//! its state, of as many replicas as the roster has names.
 ghost use Rattle.std.specs.Prelude.{◌≡◌, ◌≤◌, ◌^◌, ℕ, List, length, Ok, IfOk, IfErr};
 ghost use Rattle.std.specs.FinMap as map;
 ghost use Rattle.rds_names.specs.declared.fault.Fault.TheVariants.{Memory};
@@ -222,7 +222,7 @@ fn put_snapshot<S: DotSet>(
 
 /// The text of the replica's snapshot in a format. It is refused as that of the state is
 /// ([`encode_state_in`](crate::encode_state_in)). All of the text, read again, is this very replica in this format.
-/// Nothing but want of memory hinders that of a replica without components.
+/// Nothing but `Memory` hinders that of a replica without components.
 pub fn encode_snapshot_in<S: DotSet>(
     alloc: Global,
     format: Format,
@@ -241,7 +241,7 @@ pub fn encode_snapshot_in<S: DotSet>(
 
 /// The text of the replica's snapshot. Its keys are numbered first, which takes memory. Above the limit the text is
 /// refused then (`TooLong`); within it all memory that it needs is taken at once. All of the text, read again, is this
-/// very replica. Nothing but want of memory hinders that of a replica without components.
+/// very replica. Nothing but `Memory` hinders that of a replica without components.
 pub fn encode_snapshot<S: DotSet>(alloc: Global, replica: &Replica<S>) -> Result<Vec<u8>, Fault>
     ensures text { EncodesTabled (snapshot_text replica.now) result }
     ensures again { IfOk result (λ bytes. all_of snapshot_in_at bytes.items ≡ Ok (Two, replica.now)) }

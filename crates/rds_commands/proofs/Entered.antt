@@ -1,4 +1,4 @@
--- From what was entered to what is told.
+-- From what was entered to what is reported.
 use Rattle.std.proofs.Common.{◌≡◌, ℕ, List, Option, Result, Ok, Err, subst, inl, inr, refl}
 use Rattle.std.specs.Prelude.{IfErr, IfOk}
 use Rattle.clap.specs.Words.{HasKind, Kinds, kind_of}
@@ -20,7 +20,7 @@ use Rattle.rds_commands.specs.declared.file_commands.FileAnswer.{FileAnswer}
 use Rattle.rds_commands.specs.Told.{AnswersMistake}
 use Rattle.rds_commands.specs.Unparsed.{WritesUnparsed}
 
--- want of memory was written
+-- Memory was written
 pub memory_told : {T : Type 0} (e : Error) (before after : Option (List ℕ)) (status : ℕ) (old new : CountedValue T)
     → ((HasFailed old new → ⊥) → WritesUnparsed (kind_of e) before after status) → kind_of e ≡ OutOfMemory → (HasFailed old new → ⊥) → Writes (Err Memory) before after status
 memory_told e before after status old new told is wrote = subst (λ (kind : ErrorKind). WritesUnparsed kind before after status) is (told wrote)

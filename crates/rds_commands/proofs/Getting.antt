@@ -1,4 +1,4 @@
--- What stands at a path, or why nothing is told.
+-- What stands at a path, or why nothing is reported.
 use Rattle.std.proofs.Common.{◌≡◌, ◌∙◌, ◌⊎◌, ◌++◌, ◌-◌, ◌∷◌, ℕ, List, [], Result, Ok, Err, ap, inl, inr, refl, subst, sym}
 use Rattle.rds_names.specs.declared.fault.Fault.{Fault}
 use Rattle.rds_names.specs.declared.fault.Fault.TheVariants.{BadPath, Memory}
@@ -12,7 +12,7 @@ use Rattle.rds_files.specs.Files.{FileValue, IsReadAt, IsUnreadFile}
 use Rattle.rds_words.proofs.OneMeaning.{ok_isnt_err}
 use Rattle.rds_commands.specs.Looks.{DescribesFile, RefusesGet}
 
--- it is told of what the file holds
+-- it is reported of what the file holds
 pub describes_file : (path : List ℕ) (file : FileValue) (kept : ReplicaValue) (layout : Layout) (records : ℕ) (answer : Reply) → IsReadAt path file → kept ≡ file.kept → layout ≡ file.layout → records ≡ layout.whole - layout.snapshot
     → TellsOverview kept layout.snapshot records answer → DescribesFile path file answer
 describes_file path file kept layout records answer read same lies count told = record { read = read; told = rw (← lies, ← count, ← same) told }
@@ -51,6 +51,6 @@ module _ (text : List ℕ) (keys : List (List ℕ)) (is : path_of text ≡ Ok ke
   pub not_bad : {P : Type 0} (fault : Fault) → path_of text ≡ Err fault → P
   not_bad fault due = absurd (ok_isnt_err keys fault (sym is ∙ due))
 
-  -- there is no memory for what is told
+  -- there is no memory for what is reported
   pub no_answer : (fault : Fault) → fault ≡ Memory → RefusesGet text fault
   no_answer fault memory = no_place fault (inl memory)

@@ -123,7 +123,7 @@ not_unnamed words names fault asked due = absurd (ok_isnt_err names fault (sym a
 
 -- ---- at a site
 
--- what came of asking a site is told
+-- what came of asking a site is reported
 pub told_by_site : (words : GrowWords) (result : Result Reply Fault) (before after : Option (List ℕ)) (status : ℕ) → IfOk result (λ _. IsOk (names_for words)) → IfOk result (λ reply. reply ≡ Done)
     → WritesReply result before after status → WritesGrowSite words before after status
 told_by_site words (Ok reply) before after status named is wrote = inl (named, subst (λ (r : Reply). WritesReply (Ok r) before after status) is wrote)

@@ -80,7 +80,7 @@ pub checks_read : (question answer : List ℕ) (held : Option (List ℕ)) (q a x
 checks_read question answer held q a x y lines are q_is a_is checks =
     (q, a, are, subst (λ (t : List ℕ). ChecksTexts q t lines) a_is (subst (λ (t : List ℕ). ChecksTexts t y lines) q_is checks))
 
--- why nothing is told of what was read
+-- why nothing is reported of what was read
 pub refuses_read : (question answer : List ℕ) (held : Option (List ℕ)) (q a x y : List ℕ) (fault : Fault) → AreReadBy held question answer q a → x ≡ q → y ≡ a → RefusesCheck x y fault → IsUnchecked question answer held fault
 refuses_read question answer held q a x y fault are q_is a_is refuses =
     inr (q, a, are, subst (λ (t : List ℕ). RefusesCheck q t fault) a_is (subst (λ (t : List ℕ). RefusesCheck t y fault) q_is refuses))

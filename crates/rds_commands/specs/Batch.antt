@@ -18,7 +18,7 @@ pub record EditsFileBy (path : List ℕ) (lines : List (List ℕ)) (file : Repla
   pub read : IsReplacedAt path file
   pub edited : EditsLines lines file.before file.kept answers
 
--- why a replica isn't edited by lines and kept: what they make of it can't be kept; or want of memory
+-- why a replica isn't edited by lines and kept: what they make of it can't be kept; or Memory
 abbrev pub RefusesLinesIn : List (List ℕ) → ReplicaValue → Fault → Type 0
 RefusesLinesIn lines before fault =
     (fault ≡ Memory)
@@ -42,7 +42,7 @@ WritesEdits path input before after status =
     ((length input ≤ MOST) × WritesLineAnswers path (lines_in input) before after status)
     ⊎ (((MOST < length input) × Writes (Err TooLong) before after status) ⊎ Writes (Err Memory) before after status)
 
--- the same of the input of a run; where it can't be read, that is told
+-- the same of the input of a run; where it can't be read, that is reported
 abbrev pub WritesEditLines : List ℕ → Stream → Option (List ℕ) → Option (List ℕ) → ℕ → Type 0
 WritesEditLines path reading before after status =
     IfSome reading.before (λ input. NoneFailed reading → WritesEdits path input before after status)

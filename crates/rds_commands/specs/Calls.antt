@@ -1,4 +1,4 @@
--- What is told of a site that a command calls, whose address stands in place of a file.
+-- What is reported of a site that a command calls, whose address stands in place of a file.
 use Rattle.std.specs.Prelude.{◌≡◌, ◌⊎◌, ◌≤◌, ◌==◌, ℕ, Bool, true, false, List, length, MatchBool, Option, Err, if◌then◌else◌}
 use Rattle.std.specs.Io.KnownBytes.{Appends}
 use Rattle.rds_names.specs.declared.fault.Fault.{Fault}
@@ -36,7 +36,8 @@ form_of (Ask file) = Letter
 form_of (Answer file) = Letter
 form_of _ = Lines
 
--- the status that goes with what was written: 1 at most of edits, 3 where anything was found, or no bare value, and else 0
+-- the status that goes with what was written: 1 at most of edits, 3 where anything was found, or no bare value, and
+-- else 0
 abbrev pub SuitsForm : Form → List ℕ → ℕ → Type 0
 SuitsForm Replies text status = status ≤ 1
 SuitsForm forms.List text status = status ≡ (if length text == 0 then 0 else 3)

@@ -43,7 +43,7 @@ pub record IsNamed (words : InitWords) (replica : ReplicaValue) : Type 0 where
   pub no_lives : replica.state.lives ≡ map.empty
   pub no_counts : replica.state.counts ≡ map.empty
 
--- the file of the words' path was made, and keeps that replica, and that it was done is told
+-- the file of the words' path was made, and keeps that replica, and that it was done is reported
 pub record InitsFile (words : InitWords) (file : KeptFile) (answer : Reply) : Type 0 where
   pub at : file.path ≡ words.file.now
   pub place : is_beside words.file.now ≡ false
@@ -51,7 +51,7 @@ pub record InitsFile (words : InitWords) (file : KeptFile) (answer : Reply) : Ty
   pub told : answer ≡ Done
 
 -- why no file is made: the words name no replica; else something is there, or the path is none for it, or that replica
--- can't be kept; or want of memory
+-- can't be kept; or Memory
 abbrev pub RefusesInit : InitWords → Fault → Type 0
 RefusesInit words fault =
     (fault ≡ Memory)
@@ -65,8 +65,8 @@ pub record IsGrownByNames (names : List (List ℕ)) (before after : ReplicaValue
   pub own : after.own ≡ before.own
   pub state : after.state ≡ before.state
 
--- the file of the words' path was read under its lock, and keeps what it held then with the words' names behind those of
--- its roster, and that it was done is told
+-- the file of the words' path was read under its lock, and keeps what it held then with the words' names behind those
+-- of its roster, and that it was done is reported
 pub record GrowsFile (words : GrowWords) (file : ReplacedValue) (answer : Reply) : Type 0 where
   pub read : IsReplacedAt words.file.now file
   pub names : List (List ℕ)
@@ -79,12 +79,12 @@ abbrev pub IsGrownUnkept : List (List ℕ) → ReplicaValue → Fault → Type 0
 IsGrownUnkept names before fault = (after : ReplicaValue) × IsGrownByNames names before after × IsUnkept after fault
 
 -- why a replica isn't grown and kept: no roster has these names too, and only where one has, that the new one can't be
--- kept; want of memory comes only there too
+-- kept; Memory comes only there too
 abbrev pub RefusesGrowIn : List (List ℕ) → ReplicaValue → Fault → Type 0
 RefusesGrowIn names before fault = (grown_of before.roster names ≡ Err fault) ⊎ IsGrownUnkept names before fault
 
--- why words grow no file: they are no names; else the file can't be locked and read, or the replica in it isn't grown; or
--- want of memory
+-- why words grow no file: they are no names; else the file can't be locked and read, or the replica in it isn't grown;
+-- or Memory
 abbrev pub RefusesGrow : GrowWords → Fault → Type 0
 RefusesGrow words fault =
     (fault ≡ Memory)
@@ -94,7 +94,7 @@ RefusesGrow words fault =
 
 -- ---- compact
 
--- the file at this path was read under its lock, and keeps what it held then, and that it was done is told
+-- the file at this path was read under its lock, and keeps what it held then, and that it was done is reported
 pub record CompactsFile (path : List ℕ) (file : ReplacedValue) (answer : Reply) : Type 0 where
   pub read : IsReplacedAt path file
   pub same : file.kept ≡ file.before
@@ -116,7 +116,7 @@ IsEditedUnkept command before fault =
     (after : ReplicaValue) × (answer : Reply) × AnswersEdited command before after answer × IsUnkept after fault
 
 -- why a replica isn't edited and kept: what the edit itself is refused by, and only where that is nothing, that the new
--- one can't be kept; want of memory comes only there too
+-- one can't be kept; Memory comes only there too
 abbrev pub RefusesEditIn : Command → ReplicaValue → Fault → Type 0
 RefusesEditIn command before fault =
     IsDue (edit_refusal before command) fault
@@ -136,7 +136,7 @@ abbrev pub RefusesCommand : List ℕ → Command → Fault → Type 0
 RefusesCommand path command fault =
     RefusesLock path fault ⊎ ((before : ReplicaValue) × RefusesEditIn command before fault)
 
--- why words edit no file: they are no command, or it isn't carried out; or want of memory
+-- why words edit no file: they are no command, or it isn't carried out; or Memory
 abbrev pub RefusesEdit : List ℕ → EditWords → Fault → Type 0
 RefusesEdit path words fault =
     (fault ≡ Memory)
@@ -158,8 +158,8 @@ RefusesShow text fault = Refuses fault (path_of text) ⊎ (IsOk (path_of text) �
 
 -- ---- edits that may say nothing new
 
--- the file at this path was read under its lock, and keeps what it held then, edited as the words ask by an edit that says
--- what didn't stand there
+-- the file at this path was read under its lock, and keeps what it held then, edited as the words ask by an edit that
+-- says what didn't stand there
 pub record EditsNew (path : List ℕ) (words : EditWords) (file : ReplacedValue) (answer : Reply) : Type 0 where
   pub read : IsReplacedAt path file
   pub command : Command
@@ -175,7 +175,7 @@ pub record IsSame (path : List ℕ) (words : EditWords) (file : KeptFile) : Type
   pub asked : IsCommand words (Ok command)
   pub stands : StandsThere file.kept.state command
 
--- the file was edited, or it was left as it is, and that nothing changed is told
+-- the file was edited, or it was left as it is, and that nothing changed is reported
 abbrev pub EditsIfChanged : List ℕ → EditWords → Option ReplacedValue → Reply → Type 0
 EditsIfChanged path words (Some file) answer = EditsNew path words file answer
 EditsIfChanged path words None answer = ((file : KeptFile) × IsSame path words file) × (answer ≡ Edited None 0)

@@ -28,7 +28,7 @@ IsRoot text = path_of text ≡ Ok []
 abbrev pub IsBelowRoot : List ℕ → Type 0
 IsBelowRoot text = (above : List (List ℕ)) × (key : List ℕ) × (path_of text ≡ Ok (above ++ key ∷ []))
 
--- why nothing is told: the text is no path, or that of the root; else there is no replica in the file
+-- why nothing is reported: the text is no path, or that of the root; else there is no replica in the file
 abbrev pub RefusesGet : List ℕ → Fault → Type 0
 RefusesGet text fault =
     Refuses fault (path_of text) ⊎ (((fault ≡ BadPath) × IsRoot text) ⊎ (IsBelowRoot text × IsUnreadFile fault))

@@ -95,7 +95,7 @@ WritesTakeOf path question answer before after status =
     × WritesVisitOf (Some components) (fork_fault forked) before after status)
     ⊎ ((fault : Fault) × RefusesTake path question answer fault × WritesReply (Err fault) before after status)
 
--- why question and answer aren't given: both are the input, or a file or the input can't be read; or want of memory
+-- why question and answer aren't given: both are the input, or a file or the input can't be read; or Memory
 abbrev pub IsUngiven : Fault → Type 0
 IsUngiven fault = (fault ≡ Usage) ⊎ ((fault ≡ Device) ⊎ (fault ≡ Memory))
 

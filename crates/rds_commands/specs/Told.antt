@@ -124,7 +124,7 @@ WritesSim input before after status =
     Writes (Err Memory) before after status ⊎ WritesAnswers (IsSimOutput input) before after status
 
 -- what becomes of a run of `sim`: what `AnswersLines` says of its lines; or, where there was no memory to read the
--- words, that fault's line was written, or a beginning of it
+-- words, that fault's line was written, or a prefix of it
 pub record RunsSim (reading writing : Stream) (status : ℕ) : Type 0 where
   pub sim : IfSome reading.before (λ input. NoneFailed reading → Emits (WritesSim input) writing status)
   pub cut : reading.CountRose → NoneFailed writing
@@ -307,7 +307,7 @@ AnswersMistake kinds before after status =
     Writes (Err Memory) before after status
     ⊎ ((kind : ErrorKind) × IsAmong kind kinds × WritesUnparsed kind before after status)
 
--- the same, or a beginning of some text
+-- the same, or a prefix of some text
 pub record TellsMistake (kinds : Kinds) (writing : Stream) (status : ℕ) : Type 0 where
   pub told : Emits (AnswersMistake kinds) writing status
   pub part : BytesGrow writing.before writing.after

@@ -1,4 +1,4 @@
--- What is told of a file that meets a site.
+-- What is reported of a file that meets a site.
 use Rattle.std.specs.Prelude.{◌≡◌, ℕ, Bool, List, [], ◌++◌, codes, Option, Some, None, IfSome}
 use Rattle.std.specs.Io.KnownBytes.{Appends}
 use Rattle.rds_names.specs.declared.fault.Fault.{Fault}

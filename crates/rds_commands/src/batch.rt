@@ -131,7 +131,8 @@ where
     }
 }
 
-/// The lines that the reader holds. Where it fails, or holds more than [`MOST`] bytes, that is told on standard error.
+/// The lines that the reader holds. Where it fails, or holds more than [`MOST`] bytes, that is reported on standard
+/// error.
 pub fn read_lines<H: Disk, R: Read>(rt: &H, reader: &mut Counted<R>) -> Result<Vec<u8>, Fault> {
     match reader.read_front(rt.alloc(), MOST + 1) {
         Ok(input) if input.len() <= MOST => Ok(input),

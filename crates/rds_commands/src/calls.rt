@@ -191,8 +191,8 @@ fn form_of(task: &Task<'_>) -> Form
     }
 }
 
-/// Has a site do what a command asks, and writes what it answers, or the fault by which there is no answer. The words of an
-/// edit are judged before the site is called.
+/// Has a site do what a command asks, and writes what it answers, or the fault by which there is no answer. The words
+/// of an edit are judged before the site is called.
 pub fn run_call<H: Disk, R: Read, W: Write, T: RunSite<H>>(
     rt: &H,
     call: Call<'_>,
@@ -210,7 +210,7 @@ pub fn run_call<H: Disk, R: Read, W: Write, T: RunSite<H>>(
     }
 }
 
-// What is written of the answer to an edit, of which a refusal is told as that of a file is.
+// What is written of the answer to an edit, of which a refusal is reported as that of a file is.
 fn replied<H: Disk>(rt: &H, address: &str, told: Vec<u8>) -> Result<Vec<u8>, Fault> {
     match refusal_in(rt.alloc(), &told)? {
         Some(fault) => {
@@ -241,7 +241,7 @@ fn raw_text<H: Disk>(rt: &H, path: &str, told: &[u8], wanted: Wanted) -> Result<
     }
 }
 
-// The line of JSON that asks for an edit. Why its words are refused is told on standard error.
+// The line of JSON that asks for an edit. Why its words are refused is reported on standard error.
 fn edit_line<H: Disk>(rt: &H, address: &str, words: &EditWords<'_>) -> Result<String, Fault> {
     match line_of(rt.alloc(), words) {
         Ok(line) => Ok(line),

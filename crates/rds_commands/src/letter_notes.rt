@@ -1,4 +1,4 @@
-//! What people are told on standard error of questions and answers that are refused: which of the two texts it is.
+//! What is written on standard error of questions and answers that are refused: which of the two texts it is.
 use crate::notes::note_file;
 use rds_files::Disk;
 use rds_gaps::GapSet;
@@ -55,7 +55,7 @@ pub fn note_fork<H: Eprint>(rt: &H, path: &str) {
     );
 }
 
-/// Tells why nothing is told of an answer.
+/// Tells why nothing is reported of an answer.
 pub fn note_check<H: Disk>(rt: &H, question: &[u8], answer: &[u8], fault: Fault) {
     match refused_of(rt.alloc(), question, answer) {
         Refused::Question(fault) => note_question(rt, fault),

@@ -31,7 +31,7 @@ use rds_words::RawKind;
 use std::alloc::Global;
 use std::io::Write;
 
-/// The status where nothing stands that was asked for, or where something is told that was looked for.
+/// The status where nothing stands that was asked for, or where something is reported that was looked for.
 const FOUND: u8 = 3;
 
 /// Which kind a word asks for.
@@ -51,12 +51,12 @@ pub fn wanted_of(kind: RawKind) -> Wanted
 pub struct FileLines<'a, T> {
     /// The file.
     pub file: ReplicaFile<'a, GapSet>,
-    /// What is told.
+    /// What is reported.
     pub told: T,
 }
 
 impl<T: Drop> FileLines<'_, T> {
-    /// What is told alone: the file is let go.
+    /// What is reported alone: the file is let go.
     pub fn into_told(self) -> T
         ensures { result ≡ self.entry.told }
     {
@@ -84,7 +84,7 @@ pub fn raw_file<'a, H: Disk>(
 }
 
 /// Writes what stands alone at a path, and answers the status: 3 where nothing stands there. Where several kinds stand
-/// there and none is named, that is `Usage`. A fault is told on standard error alone.
+/// there and none is named, that is `Usage`. A fault is reported on standard error alone.
 pub fn run_raw<H: Disk, W: Write>(
     rt: &H,
     path: &str,
@@ -144,7 +144,7 @@ pub fn conflicts_file<'a, H: Disk>(
     Ok(FileLines { file, told })
 }
 
-/// Writes the lines of `dump_file`. The registers of which they set several values are told on standard error.
+/// Writes the lines of `dump_file`. The registers of which they set several values are reported on standard error.
 pub fn run_dump<H: Disk, W: Write>(rt: &H, path: &str, text: &str, writer: &mut Counted<W>) -> u8
     ensures written { Emits (WritesList dump_text 0 path.now text.now)
         (stream_of W.contents writer.old writer.new) result }

@@ -1,4 +1,4 @@
-//! What people are told on standard error of words and files that are refused, and of edits. Each thing is told once:
+//! What is written on standard error of words and files that are refused, and of edits. Each thing is reported once:
 //! `rds_files` tells of a file that can't be used or isn't one of rds.
 use crate::causes::{bad_key, bad_name, stands_twice};
 use crate::visits::is_site;
@@ -14,7 +14,7 @@ use rds_words::{
 /// What a path is.
 const PATH: &str = "1 to 8 keys with '/' between them, each of 1 to 64 bytes";
 
-/// Tells which file a command was refused for, and by which fault, unless that was told of the file already.
+/// Tells which file a command was refused for, and by which fault, unless that was reported of the file already.
 pub fn note_file<H: Eprint>(rt: &H, path: &str, fault: Fault) {
     match fault {
         Fault::Device => note_address(rt, path),
@@ -50,7 +50,7 @@ pub fn note_input<H: Eprint>(rt: &H, fault: Fault) {
     let _ = eprintln!(rt; "standard input: {fault}");
 }
 
-/// Tells why `init` was refused. Why the file can't be made, which is `Usage`, was told already.
+/// Tells why `init` was refused. Why the file can't be made, which is `Usage`, was reported already.
 pub fn note_init<H: Eprint>(rt: &H, words: &InitWords<'_>, fault: Fault) {
     match fault {
         Fault::Usage => (),
@@ -94,7 +94,7 @@ pub fn note_init_from<H: Eprint>(rt: &H, words: &InitFromWords<'_>, fault: Fault
     }
 }
 
-/// The same where a site was asked. That what it told is no file wasn't told yet.
+/// The same where a site was asked. That what it told is no file wasn't reported yet.
 pub fn note_init_from_site<H: Eprint>(rt: &H, words: &InitFromWords<'_>, fault: Fault) {
     let own = words.own;
     let from = words.from;

@@ -132,7 +132,7 @@ where
     }
 }
 
-// The file that is made from what a site tells. Where the site can't be asked, that was told already.
+// The file that is made from what a site tells. Where the site can't be asked, that was reported already.
 fn file_from_site<'a, H: Disk, T: RunSite<H>>(
     rt: &H,
     words: &InitFromWords<'a>,
@@ -175,8 +175,8 @@ where
     )
 }
 
-/// Writes the question of the replica in a file as `ask_file` gives it, and nothing else. A fault is told on standard
-/// error alone.
+/// Writes the question of the replica in a file as `ask_file` gives it, and nothing else. A fault is reported on
+/// standard error alone.
 pub fn run_ask<H: Disk, W: Write>(rt: &H, path: &str, writer: &mut Counted<W>) -> u8
 where
     H::File: LockFile,
@@ -193,8 +193,8 @@ where
     }
 }
 
-/// Writes the answer to the question that the reader holds as `answer_file` gives it, and nothing else. A fault is told
-/// on standard error alone. Where the reader fails, the file isn't used.
+/// Writes the answer to the question that the reader holds as `answer_file` gives it, and nothing else. A fault is
+/// reported on standard error alone. Where the reader fails, the file isn't used.
 pub fn run_answer<H: Disk, R: Read, W: Write>(
     rt: &H,
     path: &str,
@@ -415,7 +415,7 @@ fn open_text<H: Disk>(rt: &H, path: &str) -> Result<H::File, Fault>
     }
 }
 
-/// The status of a fault that is told on standard error alone: 2 for `Usage`, else 1.
+/// The status of a fault that is reported on standard error alone: 2 for `Usage`, else 1.
 pub fn status_for(fault: Fault) -> u8
     ensures status { result ≡ fault_status fault }
     ensures within { result ≤ 2 }

@@ -35,13 +35,13 @@ use std::io::{Read, Write};
 use std::net::Net;
 
 /// Runs the command that the words name, and answers the exit status. The first word is the
-/// program's name, whatever it is. `run` is left to the site, and so are `watch`, `sync` and `init --from` of an address
-/// that begins with `http://`, and what a command asks where such an address stands in place of a file.
+/// program's name, whatever it is. `run` is left to the site, and so are `watch`, `sync` and `init --from` of an
+/// address that begins with `http://`, and what a command asks where such an address stands in place of a file.
 ///
 /// A fault is written as the line `fault N: Name` and answered by 1. Words that the command line
 /// doesn't have are `Usage`: that line, then the library's text, and 2. Help and the version are written
 /// and answered by 0. A reader that fails, or that gives more reads than its bound of turns, is `Device`. Where
-/// the output itself fails the answer is 1, and of `join` and `sim` a beginning of what is due was written.
+/// the output itself fails the answer is 1, and of `join` and `sim` a prefix of what is due was written.
 pub fn run<H: Disk + Net, R: Read, W: Write, S: AsStr, T: RunSite<H>>(
     rt: &H,
     words: &[S],

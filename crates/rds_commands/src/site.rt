@@ -53,10 +53,10 @@ pub trait RunSite<H> {
         ensures taken { IfSome result.taken (IsBrought words.entry.file.now) };
 
     /// Asks the site at the address, `http://HOST:PORT`, and answers what it says. A fault by which it refuses comes
-    /// back as that, such as `BadName` and `BadRoster` of a name. Why there is no answer is told on standard error.
+    /// back as that, such as `BadName` and `BadRoster` of a name. Why there is no answer is reported on standard error.
     fn call_site(&self, rt: &H, address: &str, request: SiteRequest<'_>) -> Result<Vec<u8>, Fault>;
 
-    /// Prints what the site at the address, `http://HOST:PORT`, tells of its changes at a path, below it or above it, until
-    /// a fault ends that, and answers the fault. Why it ended is told on standard error.
+    /// Prints what the site at the address, `http://HOST:PORT`, tells of its changes at a path, below it or above it,
+    /// until a fault ends that, and answers the fault. Why it ended is reported on standard error.
     fn watch_site(&self, rt: &H, words: WatchWords<'_>, part: &Path) -> Fault;
 }

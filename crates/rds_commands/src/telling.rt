@@ -96,7 +96,7 @@ fn grow_site<H: Disk, T: RunSite<H>>(
     Ok(Reply::Done)
 }
 
-// Asks a site for one name after the other, up to the first that it refuses. Why it does was told already.
+// Asks a site for one name after the other, up to the first that it refuses. Why it does was reported already.
 fn ask_for_names<H: Disk, T: RunSite<H>>(
     rt: &H,
     address: &str,

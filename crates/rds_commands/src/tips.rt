@@ -1,5 +1,5 @@
 //! The command line's library has a tip for each word that begins with a hyphen. Where it leads nowhere it is left out,
-//! and what is right is told in its place.
+//! and what is right is reported in its place.
 use clap::Error;
 use clap::error::ErrorKind;
 use rds_names::Fault;

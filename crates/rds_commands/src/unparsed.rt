@@ -20,7 +20,7 @@ use std::convert::AsStr;
 use std::io::Write;
 
 /// Writes why the words of the command line gave no task, and answers the status. Help and the version are
-/// their text alone, with 0; want of memory is its fault. Else the text follows the line of `Usage`, with 2.
+/// their text alone, with 0; `Memory` is its fault. Else the text follows the line of `Usage`, with 2.
 pub fn write_unparsed<H: Disk, W: Write, S: AsStr>(
     rt: &H,
     words: &[S],

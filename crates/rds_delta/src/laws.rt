@@ -48,7 +48,7 @@ pub fn checked_delta_laws()
 {}
 
 /// Replicas A and B are friends, and B has asked for what it lacks when it knew less, or as much: the least delta
-/// that A answers fits where A's state fits, B's take of it is refused for want of memory alone, and B then knows all
+/// that A answers fits where A's state fits, B's take of it is refused with `Memory` alone, and B then knows all
 /// that both knew. The function does nothing: its contract is these laws.
 pub fn friends_exchange_deltas()
     ensures fits { (replicas : ℕ) (a asked : Coordinates) → Fits replicas a → Fits replicas (least a (ranks asked)) }

@@ -13,7 +13,7 @@ pub enum Progress<U, W> {
     Whole(W),
 }
 
-/// A value of which a beginning was read.
+/// A value of which a prefix was read.
 ///
 /// It isn't told what it was read from: `finish` says what reading gives of all bytes, once the ones that it hasn't
 /// taken are known.
@@ -27,7 +27,7 @@ pub trait Unfinished: Sized + Drop {
     /// Reads on as far as the bytes go, and answers those that it leaves: what is there of the next part, or what
     /// follows the value where that is whole.
     ///
-    /// It is refused, but for want of memory, only where no bytes that may follow would help.
+    /// It is refused, but for `Memory`, only where no bytes that may follow would help.
     fn read_on<'a>(
         self,
         alloc: Global,

@@ -121,7 +121,7 @@ pub record IsReplacedAt (path : List ℕ) (file : ReplacedValue) : Type 0 where
 
 -- ---- refusals
 
--- why a file gives no replica: it can't be had, or holds none; or want of memory
+-- why a file gives no replica: it can't be had, or holds none; or Memory
 abbrev pub IsUnreadFile : Fault → Type 0
 IsUnreadFile fault = (fault ≡ Device) ⊎ IsOtherFault fault
 
@@ -133,14 +133,14 @@ HoldsTooMuch {F} remaining = (file : F) × IfSome (remaining file) (λ input. LI
 abbrev pub RefusesLock : List ℕ → Fault → Type 0
 RefusesLock path fault = ((fault ≡ Usage) × (is_beside path ≡ true)) ⊎ IsUnreadFile fault
 
--- why a replica can't be kept in a file: a call on a file failed, or its text is above the limit; or want of memory; or
+-- why a replica can't be kept in a file: a call on a file failed, or its text is above the limit; or Memory; or
 -- it is written, and the system doesn't say that it lasts
 abbrev pub IsUnkept : ReplicaValue → Fault → Type 0
 IsUnkept replica fault =
     (fault ≡ Memory)
     ⊎ ((fault ≡ Device) ⊎ ((fault ≡ Unsure) ⊎ ((fault ≡ TooLong) × (LIMIT < length (snapshot_text replica)))))
 
--- why a replica isn't kept whose text is above the limit: for that, or for want of memory to find how long it is
+-- why a replica isn't kept whose text is above the limit: for that, or as memory ran out before its length was found
 abbrev pub IsTooLongOrLost : Fault → Type 0
 IsTooLongOrLost fault = (fault ≡ TooLong) ⊎ (fault ≡ Memory)
 

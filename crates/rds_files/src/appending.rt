@@ -26,7 +26,8 @@ pub fn takes_record(layout: &Layout, count: usize) -> bool {
     matches!(layout.format, Format::Two) && records.saturating_add(count as u64) <= most
 }
 
-/// Whether the file takes records up to so many bytes, however short its snapshot is. Behind one of format 1 it takes none.
+/// Whether the file takes records up to so many bytes, however short its snapshot is. Behind one of format 1 it takes
+/// none.
 pub fn is_put_off(layout: &Layout, most: u64) -> bool {
     matches!(layout.format, Format::Two) && layout.whole < most
 }
@@ -48,8 +49,8 @@ pub fn append_to<D: Device, S: DotSet>(
     }
 }
 
-/// A file that was opened for writing, and its folder where that is synced too. A call that fails is told on standard
-/// error.
+/// A file that was opened for writing, and its folder where that is synced too. A call that fails is reported on
+/// standard error.
 #[derive(Drop)]
 pub struct Tail<'a, H: Disk> {
     rt: &'a H,
@@ -135,7 +136,7 @@ impl<H: Disk> Tail<'_, H> {
         }
     }
 
-    // A call failed, which is told.
+    // A call failed, which is reported.
     fn told(&self, what: &str, error: &io::Error) -> DeviceError {
         note(self.rt, what, self.path, error);
         DeviceError
@@ -173,7 +174,7 @@ fn open_both<H: Disk>(
 }
 
 // Syncs the folder: another command may have renamed the file there, and have ended before it synced that. Some file
-// systems can't, and that isn't told.
+// systems can't, and that isn't reported.
 fn sync_folder<F: OpenFile>(folder: &F) -> io::Result<()> {
     match folder.sync_all() {
         Err(error) if !is_unsupported(error.kind()) => Err(error),

@@ -46,8 +46,8 @@ where
     keep_beside(rt, replica, name.as_str(), made)
 }
 
-/// Keeps the replica in the file of this path in place of what it holds, as `keep_new` does; FILE.new gets the owner, the
-/// group and the mode of the old file before anything is written. The caller has the old file's lock.
+/// Keeps the replica in the file of this path in place of what it holds, as `keep_new` does; FILE.new gets the owner,
+/// the group and the mode of the old file before anything is written. The caller has the old file's lock.
 pub fn keep_over<H: Disk, S: DotSet>(
     rt: &H,
     replica: Replica<S>,
@@ -191,7 +191,7 @@ fn unmade<H: Disk, S: DotSet>(rt: &H, replica: &Replica<S>, name: &str, error: &
     unkept(rt.alloc(), replica)
 }
 
-// By which fault a replica isn't kept that can't be written: `TooLong` goes before `Device`, and so does want of memory
+// By which fault a replica isn't kept that can't be written: `TooLong` goes before `Device`, and so does `Memory`
 // to find how long its text is.
 fn unkept<S: DotSet>(alloc: Global, replica: &Replica<S>) -> Fault
     ensures fault { IsUnkept replica.now result }
@@ -358,7 +358,7 @@ impl<H: Disk> Place for &mut Beside<'_, H> {
 }
 
 impl<H: Disk> Beside<'_, H> {
-    // Syncs the folder, so that the rename outlasts a loss of power. Some file systems can't, and that isn't told.
+    // Syncs the folder, so that the rename outlasts a loss of power. Some file systems can't, and that isn't reported.
     fn sync_folder(&self) -> io::Result<()> {
         match self.folder.sync_all() {
             Err(error) if !is_unsupported(error.kind()) => Err(self.told(
@@ -369,7 +369,7 @@ impl<H: Disk> Beside<'_, H> {
         }
     }
 
-    // What failed, which is told.
+    // What failed, which is reported.
     fn told(&self, what: &str, error: io::Error) -> io::Error {
         note(self.rt, what, self.name, &error);
         error

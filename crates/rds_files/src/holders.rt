@@ -76,8 +76,8 @@ where
     }
 }
 
-/// Opens the file at this path, and locks it. Where a node has it, its address is told, and that is `Device` at once.
-/// Another command is waited for, as `lock` does.
+/// Opens the file at this path, and locks it. Where a node has it, its address is reported, and that is `Device` at
+/// once. Another command is waited for, as `lock` does.
 pub fn lock_file<H: Disk>(rt: &H, path: &str) -> Result<H::File, Fault>
 where
     H::File: LockFile,

@@ -11,7 +11,7 @@ use std::{fs, io};
 
 /// Syncs the file at this place and its folder, so that a loss of power doesn't take back what was read from it.
 /// Another command may have renamed it there, and not have synced the folder yet. `Device` where that fails. A file
-/// system that syncs neither, or is read alone, isn't told.
+/// system that syncs neither, or is read alone, isn't reported.
 pub fn make_last<H: Disk>(rt: &H, place: &str, file: &H::File) -> Result<(), Fault>
     ensures fault { IfErr result (λ e. e ≡ Device) }
 {

@@ -50,7 +50,7 @@ pub not_all : (all : Bool) → not all ≡ false → all ≡ true
 not_all true quiet = refl
 not_all false quiet = absurd (cc)
 
--- nothing is done for want of memory
+-- nothing is done with Memory
 pub edits_refused : (body : List ℕ) (before after : ReplicaValue) (response : Response) (fault : Fault)
     → line_count body ≤ MOST_LINES → fault ≡ Memory → after ≡ before → TellsFault fault response
     → AnswersEdits body before after response

@@ -129,7 +129,7 @@ pub all_refused : (replies : List Reply) → lines_status replies ≢ 200 → li
 all_refused [] other = absurd (other refl)
 all_refused (reply ∷ replies) other = if_all (list_all is_refusal (reply ∷ replies)) (line_status reply) other
 
--- the same of the status that was told
+-- the same of the status that was reported
 pub all_refused_by : (replies passed : List Reply) (status : ℕ) → passed ≡ replies → status ≡ lines_status passed
     → status ≢ 200 → list_all is_refusal replies ≡ true
 all_refused_by replies passed status same is other =

@@ -25,7 +25,7 @@ two_more old first after one name tag value first_is same after_is =
     ∙ append_assoc old (one ∷ []) ((name, value) ∷ [])
     ∙ ap (λ (v : List ℕ). old ++ one ∷ (name, v) ∷ []) same
 
--- a question that isn't known is told
+-- a question that isn't known is reported
 pub question_told : (headers : Entries FieldValue) (held : ReplicaValue) (tag : Tag) (text : List ℕ) (bytes : Vec ℕ) (before : List Header) (response : Response)
     → IsTagOf held tag → text ≡ tag_text tag → is_known headers (always text) ≡ false → MayAsk held (Ok bytes) → before ≡ own_field held ∷ []
     → IsResponse 200 (before ++ (type_field (codes "application/octet-stream") ∷ tag_fields text)) bytes.items response

@@ -4,7 +4,7 @@ use Rattle.std.proofs.lemmas.List.{take_all, take-append-drop}
 use Rattle.std.proofs.lemmas.Slice.Eq.{bytes_eq-Decides}
 use Rattle.std.proofs.Math.Seq.{take-append_seam}
 
--- what stands behind a beginning and two bytes more
+-- what stands behind a prefix and two bytes more
 pub drop-behind : (start : List ℕ) (a b : ℕ) (end : List ℕ) → drop (length start + 2) (start ++ a ∷ b ∷ end) ≡ end
 drop-behind start a b end = rw (← append_assoc start (a ∷ b ∷ []) end) (drop_at (start ++ a ∷ b ∷ []) end (length start + 2) (length-append start (a ∷ b ∷ [])))
 

@@ -79,7 +79,7 @@ is_conditional Login = false
 abbrev pub is_unmet : Post → Entries FieldValue → StateValue → Bool
 is_unmet post headers state = is_conditional post && not (is_met headers (always (state_tag state)))
 
--- then that is told, and nothing is done
+-- then that is reported, and nothing is done
 abbrev pub DoesPostUnless : Bool → Post → List ℕ → SiteValue → Response → SiteValue → Type 0
 DoesPostUnless true post body old response new = (new ≡ old) × IsUnmet response
 DoesPostUnless false post body old response new = DoesPost post body old response new
@@ -89,12 +89,12 @@ abbrev pub DoesChange : Change → List ℕ → List ℕ → SiteValue → Respo
 DoesChange Changed.Edits place body old response new = DoesPost Edits body old response new
 DoesChange Changed.Set place body old response new = AnswersPut place body old.document new.document response
 
--- that is done where what stands there meets the conditions of the request. Else that is told, and nothing is done
+-- that is done where what stands there meets the conditions of the request. Else that is reported, and nothing is done
 abbrev pub DoesChangeIf : Bool → Change → List ℕ → List ℕ → SiteValue → Response → SiteValue → Type 0
 DoesChangeIf true change place body old response new = DoesChange change place body old response new
 DoesChangeIf false change place body old response new = (new ≡ old) × IsUnmetAt response
 
--- the same by the text that is told of the place, unless it is none, or memory ran out: then nothing is done
+-- the same by the text that is reported of the place, unless it is none, or memory ran out: then nothing is done
 abbrev pub DoesChangeAt : Change → List ℕ → Entries FieldValue → List ℕ → SiteValue → Response → SiteValue → Type 0
 DoesChangeAt change place headers body old response new =
     ((text : List ℕ) × IsValueAt old.document.state place text

@@ -85,7 +85,7 @@ abbrev pub RefusesNewName : List ℕ → ReplicaValue → Fault → Type 0
 RefusesNewName body before fault =
     ((is_utf8 body ≡ false) × (fault ≡ BadName)) ⊎ RefusesGrowth body before fault
 
--- a name was put last in the roster, and that is told
+-- a name was put last in the roster, and that is reported
 pub record GrowsRoster (name : List ℕ) (before after : ReplicaValue) (response : Response) : Type 0 where
   pub grown : IsGrownBy name before after
   pub told : Tells 200 json (reply_line Done) response
@@ -102,7 +102,7 @@ AnswersGrowth body before after response =
 abbrev pub HoldsBoth : List ℕ → List ℕ → List ℕ → Type 0
 HoldsBoth body question response = body ≡ to_be_bytes w32 (length question) ++ (question ++ response)
 
--- what answers a question was taken, and how much that was is told
+-- what answers a question was taken, and how much that was is reported
 pub record TakesTexts (question answer : List ℕ) (before after : ReplicaValue) (response : Response) : Type 0 where
   pub components : ℕ
   pub takes : TakesResponse question answer before after components
@@ -182,8 +182,8 @@ AnswersAs number question held response =
     × Tells 200 (codes "application/octet-stream") bytes.items response)
     ⊎ ((fault : Fault) × MayAnswerAs number question held (Err fault) × TellsFault fault response)
 
--- the body begins with the tag of what was asked, with one byte behind: the number of another replica, which is answered
--- or refused as if it had asked that
+-- the body begins with the tag of what was asked, with one byte behind: the number of another replica, which is
+-- answered or refused as if it had asked that
 pub record AnswersTagged (body : List ℕ) (held : ReplicaValue) (response : Response) : Type 0 where
   pub question : List ℕ
   pub number : ℕ

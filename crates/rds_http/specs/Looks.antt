@@ -41,7 +41,7 @@ lines_of_json = codes "application/x-ndjson"
 abbrev pub path_in : List ℕ → Result (List ℕ) Fault
 path_in place = if is_utf8 (percent_decode place) then Ok (percent_decode place) else Err BadKey
 
--- what has this tag is told to a request, or no more than that it is known
+-- what has this tag is reported to a request, or no more than that it is known
 abbrev pub TellsOf : Entries FieldValue → List ℕ → List ℕ → List ℕ → Response → Type 0
 TellsOf headers tag kind text response = TellsTagged (is_known headers (always tag)) tag kind text response
 
@@ -49,18 +49,18 @@ TellsOf headers tag kind text response = TellsTagged (is_known headers (always t
 abbrev pub told_in : (StateValue → List (List ℕ) → List ℕ) → StateValue → List ℕ → Result (List ℕ) Fault
 told_in text state place = path_in place >>= λ path. text_at_path text state path
 
--- the text that is due is told, or the fault why there is none
+-- the text that is due is reported, or the fault why there is none
 abbrev pub Shows : Entries FieldValue → StateValue → List ℕ → Result (List ℕ) Fault → Response → Type 0
 Shows headers state kind due response =
     ((text : List ℕ) × (due ≡ Ok text) × TellsOf headers (state_tag state) kind text response)
     ⊎ ((fault : Fault) × ((fault ≡ Memory) ⊎ (due ≡ Err fault)) × TellsFault fault response)
 
--- the text is told, or known
+-- the text is reported, or known
 abbrev pub IsToldOf : Bool → List ℕ → Option (String Global) → Type 0
 IsToldOf true text told = told ≡ None
 IsToldOf false text told = option_map string_bytes told ≡ Some text
 
--- the text that is due is told or known, or the fault is due, unless memory ran out
+-- the text that is due is reported or known, or the fault is due, unless memory ran out
 abbrev pub MayShow : Bool → Result (List ℕ) Fault → Result (Option (String Global)) Fault → Type 0
 MayShow known due result =
     MatchResult result (λ told. (text : List ℕ) × (due ≡ Ok text) × IsToldOf known text told)
@@ -75,12 +75,12 @@ abbrev pub IsNoPlace : List ℕ → Fault → Type 0
 IsNoPlace place fault =
     (path_in place ≡ Err fault) ⊎ ((path : List ℕ) × (path_in place ≡ Ok path) × RefusesPlace path fault)
 
--- the fault why nothing is told of a place, or want of memory, is told
+-- the fault why nothing is reported of a place, or Memory, is reported
 abbrev pub TellsNoPlace : List ℕ → Response → Type 0
 TellsNoPlace place response =
     (fault : Fault) × ((fault ≡ Memory) ⊎ IsNoPlace place fault) × TellsFault fault response
 
--- what stands at a place is told, with a tag of its own
+-- what stands at a place is reported, with a tag of its own
 abbrev pub ShowsValue : Entries FieldValue → StateValue → List ℕ → Response → Type 0
 ShowsValue headers state place response =
     ((text : List ℕ) × IsValueAt state place text × TellsOf headers (text_tag text) json text response)
@@ -121,7 +121,7 @@ ShowsStatus document response =
 abbrev pub own_field : ReplicaValue → Header
 own_field document = (codes "rds-replica", decimal document.own)
 
--- the question with this tag is told, or no more than that where it is known
+-- the question with this tag is reported, or no more than that where it is known
 abbrev pub TellsQuestion : Bool → List ℕ → ReplicaValue → Response → Type 0
 TellsQuestion true tag document response = IsResponse 304 (own_field document ∷ tag_fields tag) [] response
 TellsQuestion false tag document response =
@@ -129,14 +129,14 @@ TellsQuestion false tag document response =
     × IsResponse 200 (own_field document ∷ type_field (codes "application/octet-stream") ∷ tag_fields tag) bytes.items
     response
 
--- what the document's replica asks is told with its tag, or the fault why there is no text of it
+-- what the document's replica asks is reported with its tag, or the fault why there is no text of it
 abbrev pub ShowsQuestion : Entries FieldValue → ReplicaValue → Response → Type 0
 ShowsQuestion headers document response =
     ((tag : Tag) × IsTagOf document tag
     × TellsQuestion (is_known headers (always (tag_text tag))) (tag_text tag) document response)
     ⊎ ((fault : Fault) × (MayAsk document (Err fault) ⊎ RefusesTag document fault) × TellsFault fault response)
 
--- a new file of the document is told, or why it has none
+-- a new file of the document is reported, or why it has none
 abbrev pub ShowsSnapshot : ReplicaValue → Response → Type 0
 ShowsSnapshot document response =
     ((bytes : Vec ℕ) × EncodesFile document (Ok bytes)

@@ -22,7 +22,7 @@ news_json turn mark paths =
     codes "{\"turn\":" ++ (decimal turn ++ (codes ",\"mark\":\"" ++ (mark_text mark ++ (codes "\",\"paths\":"
     ++ (paths_json paths ++ codes "}")))))
 
--- what was kept is told: the turn, the mark of the document, and paths
+-- what was kept is reported: the turn, the mark of the document, and paths
 pub record IsNews (site : SiteValue) (text : List ℕ) : Type 0 where
   pub due : site.has_news ≡ true
   pub paths : Option (List (List (List ℕ)))

@@ -40,7 +40,7 @@ words_json status words =
 abbrev pub json : List ℕ
 json = codes "application/json"
 
--- a fault is told, with its status
+-- a fault is reported, with its status
 abbrev pub TellsFault : Fault → Response → Type 0
 TellsFault fault response = Tells (status_of fault) json (fault_json fault) response
 

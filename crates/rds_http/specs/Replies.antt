@@ -21,7 +21,7 @@ abbrev pub TellsTagged : Bool → List ℕ → List ℕ → List ℕ → Respons
 TellsTagged true tag kind body response = IsResponse 304 (tag_fields tag) [] response
 TellsTagged false tag kind body response = IsResponse 200 (type_field kind ∷ tag_fields tag) body response
 
--- the same, by the text that is told where it isn't known
+-- the same, by the text that is reported where it isn't known
 abbrev pub TellsIfUnknown : Option (List ℕ) → List ℕ → List ℕ → Response → Type 0
 TellsIfUnknown None tag kind response = IsResponse 304 (tag_fields tag) [] response
 TellsIfUnknown (Some text) tag kind response = IsResponse 200 (type_field kind ∷ tag_fields tag) text response

@@ -22,7 +22,7 @@ state_tag state = codes "\"" ++ (mark_text (mark_of state) ++ codes "\"")
 abbrev pub text_tag : List ℕ → List ℕ
 text_tag text = codes "\"" ++ (encode_lower (take 16 (sha256 text)) ++ codes "\"")
 
--- what is told of a place where nothing stands
+-- what is reported of a place where nothing stands
 abbrev pub told_of_nothing : List ℕ
 told_of_nothing = codes "{\"counter\":null,\"reg\":[],\"set\":[]}"
 

@@ -26,7 +26,7 @@ use sha2::{Digest, Sha256};
 use std::alloc::{AllocError, Global};
 use std::marker::Model;
 
-/// What is told of a place where nothing stands.
+/// What is reported of a place where nothing stands.
 const NOTHING: &[u8] = b"{\"counter\":null,\"reg\":[],\"set\":[]}";
 
 /// What the conditions of a request are about: its tag, which has no comma, and whether there is anything.

@@ -14,7 +14,7 @@ use rds_state::Mark;
 use serde_json::Value;
 use std::alloc::Global;
 
-/// A longer list of paths isn't told.
+/// A longer list of paths isn't reported.
 const LONGEST: usize = 16_384;
 
 impl<H: Disk> Site<'_, H> {

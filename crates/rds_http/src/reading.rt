@@ -332,7 +332,8 @@ fn conflicts_at(
     Ok(Some(document.conflicts(&path)?))
 }
 
-/// What is told of what stands at a place. The root is none (`BadPath`), nor is what is no path (`BadPath`, `BadKey`).
+/// What is reported of what stands at a place. The root is none (`BadPath`), nor is what is no path (`BadPath`,
+/// `BadKey`).
 pub fn value_at(alloc: Global, document: &Document, place: &[u8]) -> Result<String, Fault>
     ensures told { IfOk result (λ text. IsValueAt document.now.state place.now (string_bytes text)) }
     ensures fault { IfErr result (λ fault. (fault ≡ Memory) ⊎ IsNoPlace place.now fault) }
@@ -341,7 +342,7 @@ pub fn value_at(alloc: Global, document: &Document, place: &[u8]) -> Result<Stri
     document.value_json(&path)
 }
 
-/// What is known of a path is told no more. A text that is no path is refused (`BadPath`, `BadKey`).
+/// What is known of a path is reported no more. A text that is no path is refused (`BadPath`, `BadKey`).
 fn known_path(alloc: Global, path: &str) -> Result<Option<String>, Fault>
     ensures known { IfOk result (λ told. (told ≡ None) × ((keys : List (List ℕ)) × (path_of path.now ≡ Ok keys))) }
     ensures fault { IfErr result (λ fault. (fault ≡ Memory) ⊎ (path_of path.now ≡ Err fault)) }
@@ -394,8 +395,8 @@ fn show_status(
     }
 }
 
-/// An object of JSON, with how many other nodes there are, how each of them stands, and what they have shown as its last
-/// members.
+/// An object of JSON, with how many other nodes there are, how each of them stands, and what they have shown as its
+/// last members.
 fn with_peers(alloc: Global, object: String, metrics: &Metrics) -> Result<Vec<u8>, AllocError>
     ensures { IfOk result (λ bytes. (each : List ℕ) × IsJson each
         × (bytes.items ≡ with_peers (string_bytes object) metrics.now.peers each)) }

@@ -12,7 +12,7 @@ IsBeginning first all = (more : List (List ℕ)) × (all ≡ first ++ more)
 abbrev pub HasSynced : List (List ℕ) → List ℕ → Type 0
 HasSynced synced bytes = (tail : List ℕ) × (bytes ≡ journal_text synced ++ tail)
 
--- What is there is a beginning of what was written.
+-- What is there is a prefix of what was written.
 abbrev pub IsPartOf : List (List ℕ) → List ℕ → Type 0
 IsPartOf written bytes = (lost : List ℕ) × (journal_text written ≡ bytes ++ lost)
 
@@ -21,7 +21,7 @@ abbrev pub ReadsSynced : List (List ℕ) → List ℕ → Type 0
 ReadsSynced synced bytes =
     (payloads : List (List ℕ)) (rest : List ℕ) → All IsPayload synced → HasSynced synced bytes → IsJournal bytes payloads rest → IsBeginning synced payloads
 
--- and nothing that wasn't written, where the bytes are a beginning of that
+-- and nothing that wasn't written, where the bytes are a prefix of that
 abbrev pub ReadsWritten : List (List ℕ) → List ℕ → Type 0
 ReadsWritten written bytes =
     (payloads : List (List ℕ)) (rest : List ℕ) → All IsPayload written → IsPartOf written bytes → IsJournal bytes payloads rest → IsBeginning payloads written

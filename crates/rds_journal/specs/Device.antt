@@ -5,7 +5,7 @@ use Rattle.std.specs.Prelude.{◌<◌, ◌≡◌, ◌⊎◌, ℕ, ◌+◌, ◌-�
 abbrev pub written : List ℕ → ℕ → List ℕ → List ℕ
 written file at bytes = take at file ++ bytes ++ drop (at + length bytes) file
 
--- of these bytes a beginning was written, and not all
+-- of these bytes a prefix was written, and not all
 abbrev pub IsWrittenShort : List ℕ → ℕ → List ℕ → Option (List ℕ) → Type 0
 IsWrittenShort file at bytes seen = (k : ℕ) × (k < length bytes) × (seen ≡ Some (written file at (take k bytes)))
 
@@ -46,7 +46,7 @@ pub record LeavesOnly {D : Type 0} (moment : D → ℕ) (left_since : D → ℕ 
 abbrev pub HasRisen : ℕ → ℕ → Type 0
 HasRisen before now = (before < now) ⊎ (now ≡ 2 ^ 64 - 1)
 
--- an error is told only where the device has failed
+-- an error is reported only where the device has failed
 pub record HasCause {T E : Type 0} (before now : ℕ) (result : Result T E) : Type 0 where
   pub later : before ≤ now
   pub failed : OnErr result (HasRisen before now)

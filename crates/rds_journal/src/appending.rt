@@ -36,7 +36,7 @@ pub fn append<D: Device>(
     // Whenever a crash comes, it leaves what was there up to the end.
     ensures any_moment { LeavesOnly D.moment D.left_since device.old device.new
         (λ c. (d : List ℕ) × D.may_leave device.old d × KeepsFront end (length text.now) d c) }
-    // Where all of the file was on the disk, it leaves a beginning of it, or of what is written behind its end.
+    // Where all of the file was on the disk, it leaves a prefix of it, or of what is written behind its end.
     ensures from_rest { IfSome (D.seen device.old) (λ file. Only file (D.may_leave device.old) →
         LeavesOnly D.moment D.left_since device.old device.new (LeavesEnd file end (length text.now))) }
 

@@ -102,7 +102,7 @@ Takes {U} {V} finish old new piece =
     (reader : Reader V) (came : List ℕ) → StandsOrFails finish reader old came
     → StandsOrFails finish reader new (came ++ piece)
 
--- known bytes lose a beginning of so many, which the feed takes
+-- known bytes lose a prefix of so many, which the feed takes
 pub record Feeds {U V : Type 0} (finish : U → Reader V) (old new : FeedValue U V)
     (before after : Option (List ℕ)) (count : ℕ) : Type 0 where
   pub given : List ℕ

@@ -9,7 +9,7 @@ use Rattle.rds_bytes.specs.Reading.{Reader}
 use Rattle.rds_codec.specs.declared.limits.TheConstants.{LIMIT}
 use Rattle.rds_keep.specs.Feeding.{EachIsByte}
 
--- Known bytes lose a beginning. With those of a front, so many bytes in all, a value is whole, and some are behind it. A
+-- Known bytes lose a prefix. With those of a front, so many bytes in all, a value is whole, and some are behind it. A
 -- hasher holds those up to the last ones, with which it isn't whole, unless there are none.
 pub record Leads {V : Type 0} (read : Reader V) (front : List ℕ) (before after : Option (List ℕ)) (v : V) (count : ℕ)
     (behind : List ℕ) (hasher : Sha256) (last : List ℕ) : Type 0 where

@@ -3,11 +3,11 @@ use Rattle.std.specs.Prelude.{ℕ, ◌<◌, ◌≤◌, List, flat_map, length, t
 use Rattle.std.specs.Borrow.{Bor}
 use Rattle.std.specs.Io.KnownBytes.{Appends, Consumes}
 
--- known bytes grow by a beginning of these, which may be all of them
+-- known bytes grow by a prefix of these, which may be all of them
 abbrev pub AppendsFront : Option (List ℕ) → Option (List ℕ) → List ℕ → Type 0
 AppendsFront old new bytes = (n : ℕ) × (n ≤ length bytes) × Appends old new (take n bytes)
 
--- known bytes grow by a beginning of these, and never by all of them
+-- known bytes grow by a prefix of these, and never by all of them
 abbrev pub AppendsPart : Option (List ℕ) → Option (List ℕ) → List ℕ → Type 0
 AppendsPart old new bytes = (n : ℕ) × (n < length bytes) × Appends old new (take n bytes)
 
@@ -19,6 +19,6 @@ BytesGrow old new = (bytes : List ℕ) × Appends old new bytes
 abbrev pub pieces_text : List (Bor (List ℕ)) → List ℕ
 pieces_text pieces = flat_map (λ piece. piece.now) pieces
 
--- known bytes lose a beginning, of so many bytes at most
+-- known bytes lose a prefix, of so many bytes at most
 abbrev pub ConsumesAtMost : Option (List ℕ) → Option (List ℕ) → ℕ → Type 0
 ConsumesAtMost old new most = (bytes : List ℕ) × (length bytes ≤ most) × Consumes old new bytes

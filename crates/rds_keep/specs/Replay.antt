@@ -49,11 +49,11 @@ pub record StopsAtRecord (old new : ReplayValue) (bytes : List ℕ) (e : Fault) 
   pub taken : TakesRecords old new bytes rest
   pub refused : RefusesRest new rest e
 
--- known bytes lose a beginning
+-- known bytes lose a prefix
 abbrev pub Loses : Option (List ℕ) → Option (List ℕ) → Type 0
 Loses before after = (lost : List ℕ) × Consumes before after lost
 
--- Known bytes lose a beginning, which is held behind what was held. More bytes are held than a record may have behind
+-- Known bytes lose a prefix, which is held behind what was held. More bytes are held than a record may have behind
 -- that of a checksum, or they are all that there is.
 pub record HoldsMore (before after : Option (List ℕ)) (old new : List ℕ) : Type 0 where
   pub given : List ℕ

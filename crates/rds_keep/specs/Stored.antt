@@ -39,7 +39,7 @@ IsAllOf format is_summed v behind =
     is_summed ≡ false
     → HasNoSum (sha256 (snapshot_text_in format v)) behind × (CutsSum (snapshot_text_in format v) behind → ⊥)
 
--- known bytes lose a beginning, which is a snapshot and what is behind it
+-- known bytes lose a prefix, which is a snapshot and what is behind it
 pub record LosesFirst (before after : Option (List ℕ)) (format : Format) (v : ReplicaValue) (behind : List ℕ) : Type 0 where
   pub given : List ℕ
   pub consumed : Consumes before after given
@@ -49,7 +49,7 @@ pub record LosesFirst (before after : Option (List ℕ)) (format : Format) (v : 
 abbrev pub RefusesEnd : ℕ → List ℕ → Fault → Type 0
 RefusesEnd whole rest e = ((e ≡ Bad) × (IsTorn rest → ⊥)) ⊎ ((e ≡ TooLong) × (2 ^ 64 ≤ whole + length rest))
 
--- known bytes lose a beginning, which is such a front and what is behind it
+-- known bytes lose a prefix, which is such a front and what is behind it
 pub record LosesFront (before after : Option (List ℕ)) (format : Format) (is_summed : Bool) (v : ReplicaValue)
     (behind : List ℕ) : Type 0 where
   pub given : List ℕ

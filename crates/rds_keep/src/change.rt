@@ -18,7 +18,8 @@ use rds_state::State;
 use std::alloc::{AllocError, Global};
 use std::marker::Model;
 
-/// What changes a kept replica: a delta that its state is joined with, and a roster that its own begins, where that grows.
+/// What changes a kept replica: a delta that its state is joined with, and a roster that its own begins, where that
+/// grows.
 #[derive(Drop)]
 pub struct Change<'a, S: DotSet> {
     /// The roster from then on, where it grows.
@@ -89,7 +90,7 @@ pub fn encode_change<S: DotSet>(
 }
 
 /// The change whose text a payload is, of a replica of this number with this roster. Whatever else it is refused for
-/// than want of memory, it is `Bad`.
+/// than `Memory`, it is `Bad`.
 pub fn decode_change<S: DotSet>(
     alloc: Global,
     roster: &Roster,

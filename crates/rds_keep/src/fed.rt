@@ -9,7 +9,7 @@ use rds_codec::Format;
 use rds_feeds::Unfinished;
 use std::alloc::Global;
 
-/// A value of which a beginning of its text was read, where values of its kind have texts.
+/// A value of which a prefix of its text was read, where values of its kind have texts.
 pub trait Fed: Unfinished {
     /// The kind of texts, in a format and of a roster of so many replicas.
     ghost kind: { Format → ℕ → Kind Self.Whole };

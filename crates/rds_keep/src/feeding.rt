@@ -20,7 +20,7 @@ use std::io::Read;
 /// How many bytes one call of a reader is asked for.
 const CHUNK: usize = 65_536;
 
-// Feeds a piece. But for want of memory, a fault stays in the feed.
+// Feeds a piece. But for `Memory`, a fault stays in the feed.
 fn feed_all<U: Unfinished>(feed: &mut Feed<U>, piece: &[u8]) -> Result<(), Fault>
     ensures takes { OnOk result (Takes U.finish feed.old feed.new piece.now) }
     ensures memory { IfErr result (λ e. e ≡ Memory) }

@@ -16,11 +16,11 @@ use rds_names::Fault;
 use rds_state::Replica;
 use std::alloc::Global;
 
-/// Writes a new file of the replica into the place, its snapshot and the record of its checksum, syncs it and renames it:
-/// only then is the replica kept. Its caller gives a place that wasn't renamed. The kept replica is this very one.
+/// Writes a new file of the replica into the place, its snapshot and the record of its checksum, syncs it and renames
+/// it: only then is the replica kept. Its caller gives a place that wasn't renamed. The kept replica is this very one.
 ///
 /// Refuses as `write_snapshot` does; a sync or a rename that fails is `Device` too. After a refusal
-/// the replica is let go; the place isn't renamed, and holds a beginning of the bytes, which may be all of them.
+/// the replica is let go; the place isn't renamed, and holds a prefix of the bytes, which may be all of them.
 #[tactic(auto, using(crate::proofs::TextParts::refused_after, crate::proofs::TextParts::stays_written))]
 pub fn keep_in<S: DotSet, P: Place>(
     alloc: Global,

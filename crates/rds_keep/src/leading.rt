@@ -39,7 +39,7 @@ pub fn hold_bytes(bytes: &[u8])
     ensures { EachIsByte bytes.now }
 {}
 
-/// Reads on as far as the bytes go. Whatever else they are refused for than want of memory, they are `Bad`.
+/// Reads on as far as the bytes go. Whatever else they are refused for than `Memory`, they are `Bad`.
 pub fn read_step<U: Unfinished>(
     alloc: Global,
     unfinished: U,
@@ -55,8 +55,8 @@ pub fn read_step<U: Unfinished>(
     }
 }
 
-/// The value that bytes begin with, and those behind it. Refuses `Cut` where there are fewer bytes than the value has, and
-/// `Bad` where no bytes that may follow would help.
+/// The value that bytes begin with, and those behind it. Refuses `Cut` where there are fewer bytes than the value has,
+/// and `Bad` where no bytes that may follow would help.
 pub fn decode_leading<U: Unfinished>(
     alloc: Global,
     unfinished: U,
@@ -78,8 +78,8 @@ impl<R: Read> Counted<R> {
     /// Reads the value that the front and all that the reader holds begin with, and no more than a block behind it. It
     /// spends turns of a loop that its caller began.
     ///
-    /// Refuses `Cut` where there are fewer bytes than the value has, `TooLong` where more than a text may have don't make
-    /// it whole, and `Bad` as soon as no bytes that may follow would help.
+    /// Refuses `Cut` where there are fewer bytes than the value has, `TooLong` where more than a text may have don't
+    /// make it whole, and `Bad` as soon as no bytes that may follow would help.
     pub(crate) fn read_leading<U: Unfinished>(
         &mut self,
         alloc: Global,

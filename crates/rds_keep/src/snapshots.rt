@@ -38,7 +38,7 @@ pub(crate) fn text_can_be_kept<S: DotSet>(replica: &Replica<S>, text: &[u8])
 /// Writes the replica's snapshot. The kept replica is this very one; where it is refused, it is let go.
 ///
 /// Refuses `TooLong` where the text is above the limit, which to find takes memory. It takes all its memory before it
-/// writes the first byte. A call of the writer that fails, or that takes no byte, is `Device`: then a beginning
+/// writes the first byte. A call of the writer that fails, or that takes no byte, is `Device`: then a prefix
 /// of the text is written. The writer isn't flushed.
 #[tactic(auto, using(crate::proofs::TextParts::refused_before))]
 pub fn write_snapshot<S: DotSet, W: Write>(

@@ -10,7 +10,7 @@ use rds_names::Fault;
 use std::io::Write;
 
 impl<W: Write> Counted<W> {
-    /// Writes the bytes, in as many calls as the writer wants. Where a call fails, a beginning of
+    /// Writes the bytes, in as many calls as the writer wants. Where a call fails, a prefix of
     /// them is written.
     #[tactic(auto, using(crate::proofs::WrittenSoFar::more_written))]
     pub fn write_all(&mut self, bytes: &[u8]) -> Result<(), Fault>

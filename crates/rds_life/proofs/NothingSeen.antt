@@ -31,7 +31,7 @@ agrees (Some Dead) = tt
 pub agrees_nothing : (a b : Lived) → map.len b ≡ 0 → (d : Dot) → Agree (map.get a d) (map.get b d)
 agrees_nothing a b none d = subst (Agree (map.get a d)) (sym (ap (λ (v : Lived). map.get v d) (map.empty_of_len b none) ∙ map.get-empty dot_cmp d)) (agrees (map.get a d))
 
--- lives that have a join are refused for want of memory alone
+-- lives that have a join are refused with Memory alone
 pub gives_memory : (a b : Lived) (r : Result (Unit {0}) Fault) → LivesAreCompatible a b → IfErr r (λ f. f ≡ Memory) → MergeGives a b r
 gives_memory a b (Ok x) agree memory = agree
 gives_memory a b (Err f) agree memory = subst (λ g. MergeGives {T = Unit {0}} a b (Err g)) (sym memory) agree

@@ -124,7 +124,7 @@ abbrev pub Conflicts : Lived → Lived → Option Dot → Type 0
 Conflicts a b None = LivesAreCompatible a b
 Conflicts a b (Some d) = IsFirstConflict a b d
 
--- when a merge succeeds, and which fault it gives; want of memory only where it could succeed
+-- when a merge succeeds, and which fault it gives; Memory only where it could succeed
 abbrev pub MergeGives : {T : Type 0} → Lived → Lived → Result T Fault → Type 0
 MergeGives a b (Ok x) = LivesAreCompatible a b
 MergeGives a b (Err Memory) = LivesAreCompatible a b

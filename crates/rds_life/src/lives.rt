@@ -36,7 +36,7 @@ use std::marker::Model;
 /// It keeps the set of seen dots and, in the order of the dots, the entries of those that are live:
 /// the dot store and causal context of Almeida, Shoker, Baquero 2018. The entries stand in a list,
 /// or in a map once the lives are indexed. From then on the dead dots are kept too, so that what asks
-/// for them goes by runs and not by rows; want of memory only ends that.
+/// for them goes by runs and not by rows; lack of memory only ends that.
 pub struct Lives<S: DotSet> {
     seen: S,
     rows: Rows,
@@ -272,7 +272,7 @@ impl<S: DotSet> Lives<S> {
         Ok(())
     }
 
-    /// Makes a dot dead, for good. Can't fail where the dot isn't unseen: want of memory does no harm
+    /// Makes a dot dead, for good. Can't fail where the dot isn't unseen: lack of memory does no harm
     /// there.
     pub fn kill(&mut self, dot: Dot) -> Result<(), Fault>
         requires { is_dot dot ≡ true }

@@ -124,7 +124,7 @@ module _ (number : ℕ) (line text : List ℕ) (is : (is_text_line line ≡ true
       fault_is a b e = cc
   not_done command fault given (inr does) = no_edit command fault given does.edited.due does.err
 
-  -- a command that was done, and is told
+  -- a command that was done, and is reported
   pub all_done : (command : Command) (edited : Edited) (answer : Reply) → MayGive (Ok command) (edit_of text) → DoesCommand before command (Ok edited) after → answer ≡ edit_reply after.roster edited.dot edited.killed
       → MeetsEdit number line before answer after
   all_done command edited answer given (inl memory) told = absurd (other edited Memory memory.0)

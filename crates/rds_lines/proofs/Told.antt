@@ -205,7 +205,7 @@ module _ {A : Type 0} (may : A → List (List ℕ) → List ℕ → Bool → Typ
         given.1,
       )
 
-  -- a beginning of the fault's line after what was written
+  -- a prefix of the fault's line after what was written
   pub told_cut_front : (first now next before after later : Option (List ℕ)) (opening state : A) (refused : Bool) (fault : Fault) (IsCut : Type 0) → Told first now before after opening state refused → ((a : A) → may a [] [] false)
       → LosesPiece now next → fault ≡ Device → IsCut → AppendsFront after later (fault_line fault) → WritesFront (may opening) (fault_line Device) IsCut first next before later
   told_cut_front first now next before after later opening state refused fault IsCut t ends lost is cut front =
@@ -223,7 +223,7 @@ module _ {A : Type 0} (may : A → List (List ℕ) → List ℕ → Bool → Typ
         is_written = inr (cut, refl, front_after before after later t.out (fault_line Device) t.written begun);
       }
 
-  -- a beginning of one answer more
+  -- a prefix of one answer more
   pub told_front : (first now held before after later : Option (List ℕ)) (ahead : List ℕ) (opening state next_state : A) (refused refusal : Bool) (line : Result (String Global) Fault) (text cut : List ℕ) (IsCut : Type 0)
       → Told first now before after opening state refused → ((a : A) → may a [] [] false) → TakesLine now (prepend_known ahead held) (Some line) → IsOfSomeLine line → AppendsPart after later text
       → ((bytes : List ℕ) (lines : List (List ℕ)) (out : List ℕ) (more : Bool) → ReadsText bytes line → may next_state lines out more → may state (bytes ∷ lines) (text ++ out) (refusal || more))

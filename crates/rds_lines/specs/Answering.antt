@@ -30,7 +30,7 @@ pub record WritesCut (may : List (List ℕ) → List ℕ → Bool → Type 0) (l
   pub answered : may lines out refused
   pub is_written : Appends before after (out ++ line)
 
--- a beginning of what the first lines that the reader gave may be answered was written, and nothing else; or, where the
+-- a prefix of what the first lines that the reader gave may be answered was written, and nothing else; or, where the
 -- reader failed, of what all its lines may be answered, and of this line
 pub record WritesFront (may : List (List ℕ) → List ℕ → Bool → Type 0) (line : List ℕ) (IsCut : Type 0)
     (first now before after : Option (List ℕ)) : Type 0 where
@@ -45,7 +45,7 @@ pub record WritesFront (may : List (List ℕ) → List ℕ → Bool → Type 0) 
   pub is_written : AppendsFront before after out ⊎ (IsCut × (later ≡ []) × AppendsFront before after (out ++ line))
 
 -- what becomes of a reader's lines that may be answered so: all are answered; where the reader failed, those before
--- that, and then `Device`; where the writer failed, a beginning of that was written
+-- that, and then `Device`; where the writer failed, a prefix of that was written
 pub record AnswersLines (may : List (List ℕ) → List ℕ → Bool → Type 0) (reading writing : Stream) (status : ℕ)
     : Type 0 where
   pub answered : IfSome reading.before

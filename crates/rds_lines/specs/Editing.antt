@@ -78,7 +78,7 @@ MeetsCommand line (Ok command) before answer after =
     ⊎ ((fault : Fault) × IsDue (edit_refusal before command) fault × IsLineRefused line fault before answer after)
 MeetsCommand line (Err fault) before answer after = IsLineRefused line fault before answer after
 
--- what a line with its number is answered and makes of a replica: what is due, or want of memory, which changes nothing
+-- what a line with its number is answered and makes of a replica: what is due, or Memory, which changes nothing
 abbrev pub MeetsEdit : ℕ → List ℕ → ReplicaValue → Reply → ReplicaValue → Type 0
 MeetsEdit line bytes before answer after =
     IsLineRefused line Memory before answer after ⊎ MeetsCommand line (edit_of_bytes bytes) before answer after

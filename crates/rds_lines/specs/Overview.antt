@@ -50,7 +50,7 @@ abbrev pub file_sizes_text : ℕ → ℕ → List ℕ
 file_sizes_text snapshot records =
     codes ",\"snapshot\":" ++ (decimal snapshot ++ (codes ",\"records\":" ++ decimal records))
 
--- with what is told of a file, if anything
+-- with what is reported of a file, if anything
 abbrev pub overview_text : RosterValue → ℕ → Amounts → List ℕ → Mark → List ℕ
 overview_text roster own amounts of_file mark =
     whose_text roster own

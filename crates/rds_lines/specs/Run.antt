@@ -17,12 +17,12 @@ abbrev pub WritesJoin : List ℕ → Option (List ℕ) → Option (List ℕ) →
 WritesJoin input before after status =
     (answer : Result (List ℕ) Fault) × MayJoinTo input answer × Writes answer before after status
 
--- a beginning of what joining the input answers was written, and nothing else
+-- a prefix of what joining the input answers was written, and nothing else
 abbrev pub WritesJoinFront : List ℕ → Option (List ℕ) → Option (List ℕ) → Type 0
 WritesJoinFront input before after =
     (answer : Result (List ℕ) Fault) × MayJoinTo input answer × AppendsFront before after (output_of answer)
 
--- what becomes of a run of `join`: what its input is joined to was written, or a beginning of it where the writer
+-- what becomes of a run of `join`: what its input is joined to was written, or a prefix of it where the writer
 -- failed; where the reader failed, that is `Device`; and so many bytes of the input are read at most
 pub record RunsJoin (reading writing : Stream) (status : ℕ) : Type 0 where
   pub join : IfSome reading.before (λ input. NoneFailed reading → Emits (WritesJoin input) writing status)

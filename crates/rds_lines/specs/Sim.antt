@@ -132,7 +132,7 @@ MeetsRead now (Err fault) answer next = LineIsRefused now fault answer next
 abbrev pub line_of_bytes : List ℕ → Result Line Fault
 line_of_bytes bytes = if is_text_line bytes then line_of bytes else Err BadLine
 
--- the answer that is due, or want of memory, which changes nothing
+-- the answer that is due, or Memory, which changes nothing
 abbrev pub MeetsBytes : Option Group → List ℕ → Reply → Option Group → Type 0
 MeetsBytes now bytes answer next = LineIsRefused now Memory answer next
     ⊎ MeetsRead now (line_of_bytes bytes) answer next
@@ -149,7 +149,7 @@ pub record MeetsFirst (now : Option Group) (bytes : List ℕ) (After : Option Gr
   pub out_is : out ≡ reply_line answer ++ rest
   pub refused_is : refused ≡ (is_refusal answer || more)
 
--- what a read line is answered, or want of memory, which changes nothing
+-- what a read line is answered, or Memory, which changes nothing
 abbrev pub MayMeet : Option Group → Line → Reply → Option Group → Type 0
 MayMeet now line answer next = LineIsRefused now Memory answer next ⊎ MeetsLine now line answer next
 

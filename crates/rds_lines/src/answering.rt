@@ -31,7 +31,7 @@ pub trait Answers {
 
 /// Answers each line that the reader holds, and answers the status: 0, or 1 where one was refused.
 /// Where the reader fails, the line of `Device` follows the answers so far, with 1; where the
-/// output fails it is 1, and a beginning of all that is written.
+/// output fails it is 1, and a prefix of all that is written.
 pub fn answer_lines<A: Answers, R: Read, W: Write>(
     alloc: Global,
     answers: &mut A,

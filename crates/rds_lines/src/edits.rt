@@ -20,7 +20,7 @@ pub trait Edits {
     fn roster(&self) -> &Roster
         ensures { result.now ≡ (replica self.now).roster };
 
-    /// Edits the replica. Refuses as [`Replica::edit`](rds_state::Replica::edit) does, and for want of memory where it
+    /// Edits the replica. Refuses as [`Replica::edit`](rds_state::Replica::edit) does, and with `Memory` where it
     /// is held otherwise.
     fn edit_by(&mut self, command: &Command) -> Result<Edited, Fault>
         ensures done { DoesCommand (replica self.old) command.now result (replica self.new) }

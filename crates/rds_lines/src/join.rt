@@ -82,7 +82,7 @@ fn joined<S: DotSet>(first: Replica<S>, second: Replica<S>) -> Result<Replica<S>
 
 /// Two snapshots are joined to one thing alone. So whatever `join` answers for the lines of two
 /// snapshots, each in either format, is the text of their join in format 2, or why there is none, or
-/// want of memory.
+/// `Memory`.
 pub fn join_is_known()
     ensures once { IsJoinedOnce }
     ensures answers { AnswersSpelled }

@@ -1,5 +1,5 @@
 //! Lines in, lines out: what lines about a group of replicas are answered, the two lines that are joined to one, and
-//! what is told of one replica. Of the command `join` read `lines`, `refusal` and `join`; of `sim` then `ahead`,
+//! what is reported of one replica. Of the command `join` read `lines`, `refusal` and `join`; of `sim` then `ahead`,
 //! `answering`, `views` and `sim`; `run` has both, and `laws` says what all lines of `sim` come to. Of one replica read
 //! `place`, `edits`, `editing` and `overview`.
 #![tactic(auto)]

@@ -59,8 +59,8 @@ pub fn describe<S: DotSet>(
 }
 
 /// Whose replica this is and how much there is of it, as JSON: its live entries, dots of dead ones, counters and
-/// components, the bytes of its snapshot in format 2, which is what is written, and the mark of its state, which who keeps
-/// it hands in.
+/// components, the bytes of its snapshot in format 2, which is what is written, and the mark of its state, which who
+/// keeps it hands in.
 pub fn overview_json<S: DotSet>(
     alloc: Global,
     replica: &Replica<S>,
@@ -73,7 +73,7 @@ pub fn overview_json<S: DotSet>(
     overview_with(alloc, replica, mark, "")
 }
 
-// The same, with what is told of its file.
+// The same, with what is reported of its file.
 fn overview_with<S: DotSet>(
     alloc: Global,
     replica: &Replica<S>,

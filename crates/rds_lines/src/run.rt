@@ -24,7 +24,7 @@ const MOST: usize = 1_073_741_827;
 
 /// Answers the lines that the reader holds, about a group of replicas in memory, and answers the status: 0, or 1
 /// where one was refused. Where the reader fails, the line of `Device` follows the answers so far, with 1; where
-/// the output fails it is 1, and a beginning of all that is written.
+/// the output fails it is 1, and a prefix of all that is written.
 pub fn run_sim<R: Read, W: Write>(
     alloc: Global,
     reader: &mut Counted<R>,
@@ -40,7 +40,7 @@ pub fn run_sim<R: Read, W: Write>(
 
 /// Writes the hex digits of what the two snapshots are joined to whose digits the reader holds as two lines, or the
 /// line of a fault, and answers the status. A reader that fails is `Device`. Where a call of the writer fails, a
-/// beginning of that is written.
+/// prefix of that is written.
 pub fn run_join<R: Read, W: Write>(
     alloc: Global,
     reader: &mut Counted<R>,

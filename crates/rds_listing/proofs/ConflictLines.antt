@@ -70,7 +70,7 @@ maps_are_smaller v maps are =
     let same : maps_size (maps_shown (out-View v).maps) ≡ maps_size maps = ap maps_size are in
     omega (arith, size, same)
 
--- what a view shows is told by its registers and maps
+-- what a view shows is known by its registers and maps
 pub told_of_view : (above : List (List ℕ)) (v : View) (regs : List (List ℕ × List Scalar)) (maps : ShownMaps)
     → regs ≡ (out-View v).regs → maps_shown (out-View v).maps ≡ maps
     → lines_text (conflict_lines (standings_beside above regs [] maps)) ≡ conflicts_below above (shown_view v)

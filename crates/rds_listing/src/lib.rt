@@ -1,8 +1,8 @@
-//! What is told of a document to scripts: the bare values that stand at a key, the registers with more than one value,
-//! the edits that make it, and what another doesn't show, each as lines of bytes. Read `bare`; then `pieces` and
+//! What is reported of a document to scripts: the bare values that stand at a key, the registers with more than one
+//! value, the edits that make it, and what another doesn't show, each as lines of bytes. Read `bare`; then `pieces` and
 //! `standings`, on which `conflicting` and `dumping` stand; then `leaves`, `differing`, `sums` and `telling`. Then
-//! `presence`, which says whether an edit would show nothing new, and `certificates`, which tells why each component
-//! of a delta is sent.
+//! `presence`, which says whether an edit would show nothing new, and `certificates`, which tells why each component of
+//! a delta is sent.
 #![tactic(auto)]
 
 mod bare;

@@ -69,7 +69,7 @@ left side kept s ended last received is same checked done over e = record {
   session = record { session = s; heard = is.heard; is_received = same; stands = left_stands s ended last is.stands e };
 }
 
--- an end was settled, and is told of
+-- an end was settled, and is reported
 pub told_of : (side : Side) (file : KeptFile) (received : Option Delivery) (ended : Ended) (settled : Settled) (taken : Option ReplacedValue)
     → Leaves side file.kept received ended → Settles file.path file.kept received settled taken → TellsEnd side file (report_text settled ended) (tells_fault settled ended) taken
 told_of side file received ended settled taken leaves settles =

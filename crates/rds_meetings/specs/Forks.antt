@@ -18,6 +18,6 @@ abbrev pub EndForked : Option ReplacedValue → Option ReplacedValue → Type 0
 EndForked (Some one) (Some other) = AreForked one.kept other.kept
 EndForked one other = ⊥
 
--- the line of the fault, where it is told
+-- the line of the fault, where it is reported
 abbrev pub fork_text : Bool → List ℕ
 fork_text told = if told then fault_line Forked else []

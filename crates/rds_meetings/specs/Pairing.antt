@@ -1,4 +1,4 @@
--- What becomes of the replicas in two files that have a session, and what is told of them.
+-- What becomes of the replicas in two files that have a session, and what is reported of them.
 use Rattle.std.specs.Prelude.{◌≡◌, ◌⊎◌, ◌↔◌, ℕ, Bool, IsTrue, ◌||◌, List, ◌++◌, Option}
 use Rattle.std.specs.Io.KnownBytes.{Appends}
 use Rattle.rds_state.specs.Fits.{ReplicaValue}
@@ -32,8 +32,8 @@ abbrev pub file_of : {H S File Dir : Type 0} → PairedFile H S File Dir → Kep
 file_of (Locked file) = file
 file_of (Read file) = record { path = file.path; kept = file.kept }
 
--- what is told of an end, whose replica was read from this file, whether a fault is told, and the file where it took what
--- it received: that was settled in what the file held then
+-- what is reported of an end, whose replica was read from this file, whether a fault is reported, and the file where it
+-- took what it received: that was settled in what the file held then
 pub record TellsEnd (side : Side) (file : KeptFile) (text : List ℕ) (told : Bool) (taken : Option ReplacedValue) : Type 0 where
   pub received : Option Delivery
   pub ended : Ended
@@ -43,8 +43,8 @@ pub record TellsEnd (side : Side) (file : KeptFile) (text : List ℕ) (told : Bo
   pub text_is : text ≡ report_text settled ended
   pub told_is : told ≡ tells_fault settled ended
 
--- what is told of the client and then of the server was written, then that both took and hold forked replicas since,
--- exactly where they do, and nothing else; the status is 1 where a fault is told
+-- what is reported of the client and then of the server was written, then that both took and hold forked replicas
+-- since, exactly where they do, and nothing else; the status is 1 where a fault is reported
 pub record WritesBoth (client server : KeptFile) (before after : Option (List ℕ)) (status : ℕ) : Type 0 where
   pub first : List ℕ
   pub first_told : Bool
@@ -59,7 +59,7 @@ pub record WritesBoth (client server : KeptFile) (before after : Option (List �
   pub written : Appends before after (first ++ second ++ fork_text forked)
   pub status_is : status ≡ told_status (first_told || second_told || forked)
 
--- a session of the files at these paths, the first of which is the client, was told of, and nothing else
+-- a session of the files at these paths, the first of which is the client, was reported, and nothing else
 pub record WritesSessionOf (first second : List ℕ) (before after : Option (List ℕ)) (status : ℕ) : Type 0 where
   pub client : KeptFile
   pub client_read : IsKeptAt first client

@@ -1,4 +1,4 @@
--- What is told of a session.
+-- What is reported of a session.
 use Rattle.std.specs.Prelude.{◌≡◌, ◌⊎◌, ℕ, Bool, true, false, ◌||◌, List, [], ◌∷◌, ◌++◌, codes, Option, if◌then◌else◌}
 use Rattle.std.specs.Fmt.{decimal}
 use Rattle.std.specs.Io.KnownBytes.{Appends}
@@ -35,7 +35,7 @@ has_failed _ = false
 abbrev pub tells_fault : Settled → Ended → Bool
 tells_fault settled ended = is_fault settled || has_failed ended
 
--- 1 where a fault is told
+-- 1 where a fault is reported
 abbrev pub told_status : Bool → ℕ
 told_status told = if told then 1 else 0
 
@@ -48,8 +48,8 @@ WritesReport settled ended before after status =
 abbrev pub WritesFault : Fault → Option (List ℕ) → Option (List ℕ) → ℕ → Type 0
 WritesFault fault before after status = Appends before after (fault_line fault) × (status ≡ 1)
 
--- there is no session, and why is told alone: a file can't be had or holds no snapshot, or an address or a peer can't
--- be had
+-- there is no session, and why is reported alone: a file can't be had or holds no snapshot, or an address or a peer
+-- can't be had
 pub record WritesNone (before after : Option (List ℕ)) (status : ℕ) : Type 0 where
   pub fault : Fault
   pub due : (fault ≡ Device) ⊎ IsOtherFault fault

@@ -39,7 +39,7 @@ RefusesKnown old came delta WrongRoster = ¬ (OneBegins old.roster came)
 RefusesKnown old came delta (OwnAhead own) = Ahead old.state old.own delta (Some own)
 RefusesKnown old came delta fault = fault ≡ Memory
 
--- why a delta that came with this roster isn't taken: as a take gives it, or want of memory. A conflict is no such
+-- why a delta that came with this roster isn't taken: as a take gives it, or Memory. A conflict is no such
 -- cause where all that the delta has is above what is here, as where nobody else changed the file
 pub record RefusesDelta (old : ReplicaValue) (came : RosterValue) (delta : StateValue) (fault : Fault) : Type 0 where
   pub gives : (fault ≡ Memory) ⊎ TakeWithGives {T = Unit {0}} old.roster came old.state old.own delta (Err fault)

@@ -1,4 +1,4 @@
--- What is told of the sessions of a replica in a file.
+-- What is reported of the sessions of a replica in a file.
 use Rattle.std.specs.Prelude.{◌≡◌, ◌⊎◌, ◌≤◌, ℕ, ◌+◌, Bool, true, false, ◌||◌, List, [], ◌++◌, Option}
 use Rattle.std.specs.Io.KnownBytes.{Appends}
 use Rattle.rds_names.specs.declared.fault.Fault.{Fault}
@@ -19,7 +19,7 @@ use Rattle.rds_meetings.specs.declared.settling.Settled.TheVariants.{Nothing}
 
 -- a session of this side and the replica that was read from a file, over a reader that held this at first and holds
 -- this now, and a writer: it heard what the reader gave up, each byte once and in order, and where a call failed a
--- beginning of what it had to say may be written; it ended so, and what it received was settled so in what the file
+-- prefix of what it had to say may be written; it ended so, and what it received was settled so in what the file
 -- held then
 pub record IsSession (side : Side) (first now before after : Option (List ℕ)) (file : FileValue) (settled : Settled)
     (ended : Ended) : Type 0 where
@@ -41,7 +41,7 @@ Meets side first file settled ended =
     ⊎ ((now : Option (List ℕ)) × (before : Option (List ℕ)) × (after : Option (List ℕ))
     × IsSession side first now before after file settled ended)
 
--- a session over a stream that held this at first, or none, was told of, and nothing else
+-- a session over a stream that held this at first, or none, was reported, and nothing else
 pub record WritesSession (side : Side) (held : Option (List ℕ)) (file : FileValue) (before after : Option (List ℕ))
     (status : ℕ) : Type 0 where
   pub settled : Settled
@@ -69,8 +69,8 @@ MeetsPeer side at now settled ended =
     ((now ≡ at) × HasNotMet settled ended)
     ⊎ ((now ≡ read_more at) × (FindsNone settled ended ⊎ MeetsOnce side at settled ended))
 
--- sessions so far: how often the file was read by now, how many there were, what is told of them, whether a fault is,
--- and whether the file couldn't be kept
+-- sessions so far: how often the file was read by now, how many there were, what is reported of them, whether a fault
+-- is, and whether the file couldn't be kept
 pub record Served : Type 0 where
   pub at : PathValue
   pub count : ℕ

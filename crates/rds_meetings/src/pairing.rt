@@ -30,7 +30,8 @@ use std::io::Write;
 use std::net::Net;
 
 /// Reads the two files, connects the program to itself, and has a session as `pair` does, of which the first is the
-/// client. Where a file can't be read, that fault is told alone, and so is `Device` where the program can't connect.
+/// client. Where a file can't be read, that fault is reported alone, and so is `Device` where the program can't
+/// connect.
 ///
 /// Each file is read under its lock, and that is held until it is settled, so nothing is read twice. Where the lock of
 /// one isn't free, nobody is waited for: that file is read without it, and locked when it is settled. So two names of
@@ -66,9 +67,9 @@ where
 
 /// One session of the replicas that were read from two files over the connection. What each received is settled in what
 /// its file holds then, the first's first. Where the lock is held since the file was read, that is what was read. Then
-/// what the first received is told, after that the second's, and then `Forked` where both took, and what they hold since
-/// is forked. Where the output fails at one, nothing more is told, but what was received is taken all the same. The
-/// session has at most as many turns as the writer says.
+/// what the first received is reported, after that the second's, and then `Forked` where both took, and what they hold
+/// since is forked. Where the output fails at one, nothing more is reported, but what was received is taken all the
+/// same. The session has at most as many turns as the writer says.
 pub fn pair<H: Disk + Net, S: DotSet, W: Write>(
     rt: &H,
     client: PairedFile<'_, H, S>,

@@ -1,4 +1,4 @@
-//! What is told of a session.
+//! What is reported of a session.
 ghost use Rattle.std.specs.Prelude.{◌≡◌, ◌≤◌, ◌⊎◌, IfErr, OnOk, OnErr};
 ghost use Rattle.std.specs.Io.KnownBytes.{Appends};
 ghost use Rattle.rds_names.specs.declared.fault.Fault.TheVariants.{Device};
@@ -16,7 +16,7 @@ use std::net::OpenStream;
 
 /// Writes what a session came to, and answers the status: first what was taken into the replica in
 /// its file, or why it wasn't, then why the session failed, if it did. The status is 1 where a fault
-/// is told, else 0; where the output fails it is 1.
+/// is reported, else 0; where the output fails it is 1.
 pub fn report<W: Write>(writer: &mut Counted<W>, settled: &Settled, ended: Ended) -> u8
     ensures written { (HasFailed writer.old writer.new → ⊥) → WritesReport settled.now ended
         (W.contents writer.old.inner) (W.contents writer.new.inner) result }

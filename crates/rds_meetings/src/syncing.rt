@@ -23,8 +23,8 @@ const PAUSE: u64 = 100;
 
 /// Reads the file, connects to the peer at this address, and has a session as `sync` does. The file is read, and what
 /// was read is made to last, before the address is used; a fault there, or a peer that can't be reached (`Device`), is
-/// told alone. A server that refuses the newest version is called once more with the one before it. Which file is opened
-/// and which address is meant is settled here alone: no clause ties a path to what a file holds.
+/// told alone. A server that refuses the newest version is called once more with the one before it. Which file is
+/// opened and which address is meant is settled here alone: no clause ties a path to what a file holds.
 pub fn sync_file<H: Disk + Net, W: Write>(
     rt: &H,
     path: &str,
@@ -63,7 +63,7 @@ where
     }
 }
 
-// Connects to a peer. Why that can't be is told on standard error.
+// Connects to a peer. Why that can't be is reported on standard error.
 fn connect<H: Disk + Net>(rt: &H, addr: &str) -> Option<H::Stream> {
     match TcpStream::connect(rt, addr) {
         Ok(stream) => Some(stream),
@@ -75,7 +75,7 @@ fn connect<H: Disk + Net>(rt: &H, addr: &str) -> Option<H::Stream> {
 }
 
 /// Reads the file, listens at this address, and has sessions as `serve` does. The file is read before
-/// the address is used; a fault there, or an address that can't be had (`Device`), is told alone.
+/// the address is used; a fault there, or an address that can't be had (`Device`), is reported alone.
 /// Which file is opened and which address is meant is settled here alone: no clause ties a path to what
 /// a file holds.
 pub fn serve_file<H: Disk + Net, W: Write>(
@@ -124,7 +124,7 @@ fn note_address<H: Eprint, L: OpenListener>(rt: &H, listener: &L) {
 }
 
 /// One session of the replica that was read from the file over the stream, as the client of this version. What it
-/// received is settled in what the file holds then, and it is told as `report` does; only then is the peer let go.
+/// received is settled in what the file holds then, and it is reported as `report` does; only then is the peer let go.
 pub fn sync<H: Disk, S: DotSet, T: Read + Write + OpenStream + Drop, W: Write>(
     rt: &H,
     version: Version,

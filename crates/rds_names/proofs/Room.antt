@@ -34,7 +34,7 @@ module _ (room : List ℕ) (n : ℕ) (kept : IsTrue (is_kept (Inline room n))) w
   pub fits : n ≤ 22
   fits = let short = and_left (nat_le n 22) _ (and_right (nat_eq (length room) 22) _ kept) in grind (arith, nat_tests, short)
 
-  -- the text is as long as is told
+  -- the text is as long as is reported
   pub text_length : length (take n room) ≡ n
   text_length =
       let long = (Decides-eqb _ 22).0 (and_left (nat_eq (length room) 22) _ kept) in

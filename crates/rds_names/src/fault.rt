@@ -20,8 +20,8 @@ pub enum Own {
 }
 
 /// Why a call refused. After a refusal the value that was called is unchanged. Three are not: a session, which has
-/// failed from then on; a reader, of which a beginning may be read; and a writer or a new file, which may have got a
-/// beginning of the text.
+/// failed from then on; a reader, of which a prefix may be read; and a writer or a new file, which may have got a
+/// prefix of the text.
 #[derive(Clone, Copy, Debug, PartialEq, Eq)]
 pub enum Fault {
     /// There was no memory for what the call had to grow.
@@ -79,8 +79,8 @@ pub enum Fault {
     NoSuch,
     /// The words of the command line are none that the program takes.
     Usage,
-    /// Both ends have seen the same dots, and hold different entries: two replicas share a name, or a backup was put back
-    /// and edited.
+    /// Both ends have seen the same dots, and hold different entries: two replicas share a name, or a backup was put
+    /// back and edited.
     Forked,
     /// What was to be kept is written, and the system doesn't say that it lasts: it may be there or not.
     Unsure,

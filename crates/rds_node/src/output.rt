@@ -1,7 +1,8 @@
-//! The standard output, and what is told where it can't be written.
+//! The standard output, and what is reported where it can't be written.
 use std::io::{self, Error, ErrorKind, Write};
 
-/// The standard output. The first call on it that fails is told on standard error, but not that its reader went away.
+/// The standard output. The first call on it that fails is reported on standard error, but not that its reader went
+/// away.
 #[derive(Drop)]
 pub struct Output<'a, H> {
     rt: &'a H,
@@ -16,7 +17,7 @@ impl<'a, H> Output<'a, H> {
 }
 
 impl<H: Eprint> Output<'_, H> {
-    // Tells why a call failed, unless that was told of another one.
+    // Tells why a call failed, unless that was reported of another one.
     fn told(&mut self, error: Error) -> Error {
         if !self.is_told && error.kind() != ErrorKind::BrokenPipe {
             self.is_told = true;

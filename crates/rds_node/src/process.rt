@@ -23,7 +23,7 @@ use std::net::Net;
 use std::process::ExitCode;
 use std::{env, str};
 
-/// The longest word of which is told that it is no text.
+/// The longest word of which is reported that it is no text.
 const SHOWN: usize = 4096;
 
 /// Runs the program on the words that the process was called by, over its standard input and output.

@@ -45,7 +45,7 @@ agrees v d = subst (λ (l : Option Life). Agree l (map.get v d)) (sym (map.get-e
     with_none : (l : Option Life) → Agree None l
     with_none l = tt
 
--- what the take of a new replica is refused by, but for what its name has already, is want of memory
+-- what the take of a new replica is refused by, but for what its name has already, is Memory
 refused : (source : ReplicaValue) (name : List ℕ) (own : ℕ) (fault : Fault) → ((o : Own) → fault ≢ OwnAhead o) → TakeGives {T = Unit {0}} nothing own source.state (Err fault) → RefusesNext source name fault
 refused source name own Memory other gives = refl
 refused source name own (Conflict r n) other gives = absurd (gives.1.here (agrees source.state.lives _))

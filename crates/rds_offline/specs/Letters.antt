@@ -48,8 +48,8 @@ pub record RefusesQuestion (question : List ℕ) (fault : Fault) : Type 0 where
   pub value : IsSnapshot held
   pub why : RespondGives asked held (Err fault)
 
--- why the file at a path gives no answer: the bytes are no question; else there is no replica in the file, or it doesn't
--- respond
+-- why the file at a path gives no answer: the bytes are no question; else there is no replica in the file, or it
+-- doesn't respond
 abbrev pub RefusesAnswer : List ℕ → Fault → Type 0
 RefusesAnswer question fault =
     Decodes question_kind question (Err fault) ⊎ (IsUnreadFile fault ⊎ RefusesQuestion question fault)
@@ -139,7 +139,7 @@ pub record ChecksTexts (question answer lines : List ℕ) : Type 0 where
   pub is_received : IsReceivedFrom asked answer received
   pub told : lines ≡ evidence_text received.roster received.delta received.certificate
 
--- why there are none: the bytes are no question, or bring nothing for it; or want of memory
+-- why there are none: the bytes are no question, or bring nothing for it; or Memory
 abbrev pub RefusesCheck : List ℕ → List ℕ → Fault → Type 0
 RefusesCheck question answer fault =
     Decodes question_kind question (Err fault) ⊎ (RefusesLetter question answer fault ⊎ (fault ≡ Memory))

@@ -31,7 +31,7 @@ pub record CountsLacking (source before : ReplicaValue) (components : ℕ) : Typ
   pub is_least : IsLackingPart source before lacking
   pub count : components ≡ size lacking
 
--- why it doesn't take the other's state: as a take gives it, or want of memory
+-- why it doesn't take the other's state: as a take gives it, or Memory
 abbrev pub RefusesMerge : ReplicaValue → ReplicaValue → Fault → Type 0
 RefusesMerge source before fault =
     (fault ≡ Memory)

@@ -30,7 +30,7 @@ pub record IsUsed (source : ReplicaValue) (name : List ℕ) : Type 0 where
   pub named : number_named source.roster name ≡ Ok own
   pub used : (own ≡ source.own) ⊎ ¬ (IsUnused source.state own)
 
--- why there is no next replica: the name is none of the roster's, or it is used; or want of memory
+-- why there is no next replica: the name is none of the roster's, or it is used; or Memory
 abbrev pub RefusesNext : ReplicaValue → List ℕ → Fault → Type 0
 RefusesNext source name NoSuch = number_named source.roster name ≡ Err NoSuch
 RefusesNext source name SameReplica = IsUsed source name

@@ -57,7 +57,7 @@ impl AnsweredFile<'_> {
 }
 
 /// The question of the replica in a file, as a text: who asks, and the digest of what it has. The file is read as
-/// `open_lasting` does, so that nothing is told that a loss of power takes back.
+/// `open_lasting` does, so that nothing is reported that a loss of power takes back.
 pub fn ask_file<'a, H: Disk>(rt: &H, path: &'a str) -> Result<ToldFile<'a>, Fault>
 where
     H::File: LockFile,

@@ -7,13 +7,13 @@ use Rattle.std.proofs.Math.Seq.{take-append-add, take-length}
 use Rattle.rds_keep.specs.Parts.{AppendsFront, AppendsPart}
 use Rattle.rds_names.specs.declared.fault.Fault.{Fault}
 
--- all bytes are a beginning of them, and so is a part
+-- all bytes are a prefix of them, and so is a part
 pub front_written : (a b : Option (List ℕ)) (x : List ℕ) (r : Result (Unit {0}) Fault) → OnOk r (Appends a b x) → OnErr r (AppendsPart a b x)
     → AppendsFront a b x
 front_written a b x (Ok u) whole part = (length x, omega arith, subst (Appends a b) (sym (take-length x)) whole)
 front_written a b x (Err fault) whole part = (part.0, omega (arith, part.1), part.2)
 
--- bytes were written, and then a beginning of more
+-- bytes were written, and then a prefix of more
 pub front_after : (a b c : Option (List ℕ)) (x y : List ℕ) → Appends a b x → AppendsFront b c y → AppendsFront a c (x ++ y)
 front_after a b c x y first front =
     let n = front.0 in

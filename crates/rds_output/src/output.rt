@@ -13,7 +13,7 @@ use rds_keep::Counted;
 use rds_names::Fault;
 use std::io::Write;
 
-/// Writes a fault's line, and answers its status: 2 for `Usage`, else 1. Where a call fails, a beginning of the line
+/// Writes a fault's line, and answers its status: 2 for `Usage`, else 1. Where a call fails, a prefix of the line
 /// is written.
 #[tactic(auto, using(crate::proofs::Beginnings::front_written))]
 pub fn write_fault<W: Write>(writer: &mut Counted<W>, fault: Fault) -> u8
@@ -26,7 +26,7 @@ pub fn write_fault<W: Write>(writer: &mut Counted<W>, fault: Fault) -> u8
     status_of(write_fault_line(writer, fault), fault_status(fault))
 }
 
-/// Writes a reply's line, with 0, or a fault's line. Where a call fails, a beginning of the line is written.
+/// Writes a reply's line, with 0, or a fault's line. Where a call fails, a prefix of the line is written.
 pub fn write_reply<W: Write>(writer: &mut Counted<W>, reply: Result<Reply, Fault>) -> u8
     ensures written { (HasFailed writer.old writer.new → ⊥)
         → WritesReply reply (W.contents writer.old.inner) (W.contents writer.new.inner) result }

@@ -75,7 +75,7 @@ impl<'a> Calls<'a> {
         Ok(())
     }
 
-    /// What is at a path is opened; or a new file is made there, which is told with the mode that it is to have.
+    /// What is at a path is opened; or a new file is made there, which is reported with the mode that it is to have.
     pub fn open(&self, how: &OpenOptions, path: &str) -> io::Result<()> {
         if !how.asks_create_new() {
             return self.call("open", path);
@@ -116,7 +116,8 @@ impl<'a> Calls<'a> {
         Ok(self.nth == 0 || self.nth == met)
     }
 
-    /// A pause of this length. Where the calls since the last one are those that came before it, they aren't told again.
+    /// A pause of this length. Where the calls since the last one are those that came before it, they aren't told
+    /// again.
     pub fn pause(&self, length: Duration) -> Result<(), AllocError> {
         self.pauses.set(self.pauses.get().saturating_add(1));
         let millis = length.as_millis();
@@ -131,8 +132,8 @@ impl<'a> Calls<'a> {
         Ok(())
     }
 
-    /// The calls, how many pauses there were if any, and behind them what came of them. Each line but the first stands behind
-    /// two spaces.
+    /// The calls, how many pauses there were if any, and behind them what came of them. Each line but the first stands
+    /// behind two spaces.
     pub fn told_with(&self, end: &str) -> Result<String, Fault> {
         let told = self.told.replace(String::new(self.alloc));
         let round = self.round.replace(String::new(self.alloc));

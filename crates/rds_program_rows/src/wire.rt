@@ -33,8 +33,9 @@ const TURNS: u64 = 100;
 // How many seconds a call on the connection of `talk` may take.
 const SECONDS: u64 = 7;
 
-/// `talk CALL`: a session, as the client, of the replica in the file over a connection on which this call fails, with a peer that
-/// says what the input is. Answers the calls that were made, what became of what it received, and how it ended.
+/// `talk CALL`: a session, as the client, of the replica in the file over a connection on which this call fails, with a
+/// peer that says what the input is. Answers the calls that were made, what became of what it received, and how it
+/// ended.
 pub fn answer_talk(rt: &HostRuntime, fails: &str, input: &[u8]) -> Result<String, Fault> {
     let wire = Wire::with_peer(rt.alloc(), fails, input)?;
     let (settled, ended) = talk(rt, &wire)?;
@@ -42,8 +43,8 @@ pub fn answer_talk(rt: &HostRuntime, fails: &str, input: &[u8]) -> Result<String
     wire.calls.told_with(end.as_str())
 }
 
-/// `slow SECONDS BYTES`: the same where each read takes so many seconds, and gives at most so many bytes. Answers also how
-/// many seconds all took.
+/// `slow SECONDS BYTES`: the same where each read takes so many seconds, and gives at most so many bytes. Answers also
+/// how many seconds all took.
 pub fn answer_slow(rt: &HostRuntime, row: &str, input: &[u8]) -> Result<String, Fault> {
     let (seconds, most) = cut(row)?;
     let clock = Reads::new(number(seconds)?, number(most)? as usize);
@@ -54,8 +55,8 @@ pub fn answer_slow(rt: &HostRuntime, row: &str, input: &[u8]) -> Result<String, 
     wire.calls.told_with(end.as_str())
 }
 
-/// `piped SIDE FILE`: a session of that side of the replica in the file over a reader of the input and a writer. Answers the
-/// calls that were made, what was written, how many lines people are told, and the status.
+/// `piped SIDE FILE`: a session of that side of the replica in the file over a reader of the input and a writer.
+/// Answers the calls that were made, what was written, how many lines people are told, and the status.
 pub fn answer_piped(rt: &HostRuntime, row: &str, input: &[u8]) -> Result<String, Fault> {
     let (side, path) = cut(row)?;
     let wire = Wire::new(rt.alloc(), "");
@@ -84,8 +85,8 @@ fn talk<'a>(rt: &HostRuntime, wire: &'a Wire<'a>) -> Result<(Settled, Ended), Fa
     Ok(came)
 }
 
-/// `over WORDS`: runs the program on these words behind its name, over a connection with a peer that says what the input is.
-/// Answers the calls that were made, what was written, and the status.
+/// `over WORDS`: runs the program on these words behind its name, over a connection with a peer that says what the
+/// input is. Answers the calls that were made, what was written, and the status.
 pub fn answer_over(rt: &HostRuntime, words: &str, input: &[u8]) -> Result<String, Fault> {
     run_over(rt, words, &Wire::with_peer(rt.alloc(), "", input)?, b"")
 }
@@ -108,8 +109,8 @@ pub fn answer_failing(rt: &HostRuntime, row: &str) -> Result<String, Fault> {
     run_noted(rt, words, &Wire::new(rt.alloc(), fails))
 }
 
-/// `older CALL | WORDS`: the same over connections with an older server, which says a BYE of 1 at first, and what the input is to
-/// the one that connects next. Answers also what was said to it.
+/// `older CALL | WORDS`: the same over connections with an older server, which says a BYE of 1 at first, and what the
+/// input is to the one that connects next. Answers also what was said to it.
 pub fn answer_older(rt: &HostRuntime, row: &str, input: &[u8]) -> Result<String, Fault> {
     let (fails, words) = parted(row, " | ")?;
     let wire = Wire::with_older_server(rt.alloc(), fails, input)?;
@@ -124,8 +125,8 @@ pub fn answer_older(rt: &HostRuntime, row: &str, input: &[u8]) -> Result<String,
     wire.calls.told_with(end.as_str())
 }
 
-/// `held FILE HOLDER CALL | WORDS`: the same while the file's lock is taken. A node has it that is reached at the address
-/// HOLDER, and writes its note; or one whose note is there already (`node`); or a command (`command`).
+/// `held FILE HOLDER CALL | WORDS`: the same while the file's lock is taken. A node has it that is reached at the
+/// address HOLDER, and writes its note; or one whose note is there already (`node`); or a command (`command`).
 pub fn answer_held<'a>(rt: &'a HostRuntime, row: &'a str) -> Result<String, Fault> {
     let (held, words) = parted(row, " | ")?;
     let (path, held) = cut(held)?;
@@ -163,7 +164,8 @@ fn lock_of(rt: &HostRuntime, path: &str) -> Result<File, Fault> {
     }
 }
 
-/// `notes WORDS`: the same where no call fails, but answers only what people are told on standard error, and the status.
+/// `notes WORDS`: the same where no call fails, but answers only what people are reported on standard error, and the
+/// status.
 pub fn answer_notes(rt: &HostRuntime, words: &str) -> Result<String, Fault> {
     let wire = Wire::new(rt.alloc(), "");
     let words = named(rt.alloc(), words)?;
@@ -211,8 +213,8 @@ fn run_on_wire<'a>(
     (output.written, status)
 }
 
-/// `wire CALL`: a session of the replicas in the files a and b, over a connection on which this call fails; `wire stranger`
-/// over one that a stranger made. Answers the calls that were made, what was written, and the status.
+/// `wire CALL`: a session of the replicas in the files a and b, over a connection on which this call fails; `wire
+/// stranger` over one that a stranger made. Answers the calls that were made, what was written, and the status.
 pub fn answer_wire(rt: &HostRuntime, fails: &str) -> Result<String, Fault> {
     let wire = Wire::new(rt.alloc(), fails);
     let mut output = Output::new(&wire.calls);

@@ -18,7 +18,7 @@ use Rattle.rds_questions.specs.declared.tags.Tag.{Tag}
 
 -- ---- bytes
 
--- a beginning of bytes has bytes
+-- a prefix of bytes has bytes
 bytes_before : (bytes text rest : List ℕ) → IsBytes bytes → bytes ≡ text ++ rest → IsBytes text
 bytes_before bytes text rest fits e i =
     elim (cases_lt i (length text)) [

@@ -15,13 +15,13 @@ use Rattle.rds_questions.specs.Tags.{IsForkOf, IsTagOf, tag_of}
 abbrev pub TellsFork : ReplicaValue → ReceivedValue → Type 0
 TellsFork held x = IsForkOf x.tag (tag_of held)
 
--- where who answered and who took would ask the same, and have other marks, a fork is told
+-- where who answered and who took would ask the same, and have other marks, a fork is reported
 abbrev pub ForksAreTold : Type 0
 ForksAreTold =
     (peer held : ReplicaValue) (x : ReceivedValue) → IsTagOf peer x.tag → TellTheSame (question_of peer) (question_of held)
     → mark_of peer.state ≢ mark_of held.state → TellsFork held x
 
--- where no dot of their states has two entries, none is told, or texts of theirs collide
+-- where no dot of their states has two entries, none is reported, or texts of theirs collide
 abbrev pub NoOtherForksAreTold : Type 0
 NoOtherForksAreTold =
     (peer held : ReplicaValue) (x : ReceivedValue) → IsTagOf peer x.tag → HasText question_kind (question_of peer)

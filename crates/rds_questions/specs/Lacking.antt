@@ -49,7 +49,7 @@ pub record TellsLacks (q : QuestionValue) (held : ReplicaValue) (lacks : Lacks) 
   pub here : (lacks.here ≡ false) ↔ LacksNothingHere q held
   pub there : (lacks.there ≡ false) ↔ LacksNothingThere q held
 
--- what is lacking, or why it isn't told: first what the greeting gives, then want of memory
+-- what is lacking, or why it isn't reported: first what the greeting gives, then Memory
 abbrev pub LacksGives : QuestionValue → ReplicaValue → Result Lacks Fault → Type 0
 LacksGives q held (Ok lacks) =
     GreetGives {T = Unit {0}} held.roster held.own q.hello (Ok tt) × TellsLacks q held lacks

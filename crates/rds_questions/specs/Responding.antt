@@ -45,7 +45,7 @@ HasLongBrief v = LIMIT < length (brief_text (question_of v).digest)
 abbrev pub IsLongResponse : QuestionValue → ReplicaValue → Type 0
 IsLongResponse q v = IsLongText q v ⊎ HasLongBrief v
 
--- the text of the response, or why there is none: first what the greeting gives, then too long a text or want of memory
+-- the text of the response, or why there is none: first what the greeting gives, then too long a text or Memory
 abbrev pub RespondGives : QuestionValue → ReplicaValue → Result (Vec ℕ) Fault → Type 0
 RespondGives q v (Ok bytes) =
     GreetGives {T = Unit {0}} v.roster v.own q.hello (Ok tt) × IsRespondedBy q v bytes.items

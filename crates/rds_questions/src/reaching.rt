@@ -31,7 +31,7 @@ fn are_rows_reached(here: &Counts, rows: &[CountRow]) -> bool
     true
 }
 
-/// Whether no number that is told is above the one here.
+/// Whether no number that is reported is above the one here.
 fn are_numbers_reached(here: &Counts, told: &Counts) -> bool
     ensures { IsTrue result ↔ ((q : Place) → number told.now q ≤ number here.now q) }
 {

@@ -18,7 +18,7 @@ use std::marker::Model;
 pub struct Response<S: DotSet> {
     /// Who answers. Its version is that of the answer's format.
     pub hello: Hello,
-    /// Its tag, by which a fork is told.
+    /// Its tag, by which a fork is reported.
     pub tag: Tag,
     /// For the one that asked: the delta, and its certificate.
     pub answer: Answer<S>,

@@ -50,7 +50,7 @@ none_made_up file change layout left found stored is broken read =
 
 -- ---- where no other record stands
 
--- no record begins in a beginning of a torn end
+-- no record begins in a prefix of a torn end
 abbrev begun_further : (bytes more : List ℕ) → IsBegun bytes → IsBegun (bytes ++ more)
 begun_further bytes more begun = (begun.0, begun.1 ++ more, begun.2, ap (λ (t : List ℕ). t ++ more) begun.3 ∙ append_assoc (record_text begun.0) begun.1 more)
 
@@ -66,7 +66,7 @@ none_in_part payload k short less begun =
     let same = same_first payload [] further.0 further.1 short further.2 parts in
     absurd (let none : 0 ≡ length (begun.1 ++ drop k text) = ap length same.1 in omega (arith, none, less, length-append begun.1 (drop k text), length-drop k text))
 
--- a beginning of the file, behind its whole records
+-- a prefix of the file, behind its whole records
 behind_cut : (file : List ℕ) (v : ReplicaValue) (layout : Layout) (m : ℕ) → (stored : IsStored file v layout) → layout.whole ≤ m → drop layout.whole (take m file) ≡ take (m - layout.whole) stored.torn
 behind_cut file v layout m stored le =
     let here : layout.whole + (m - layout.whole) ≡ m = omega (arith, le) in
@@ -120,7 +120,7 @@ in_order_no_other file change layout left stored is how = elim how [
 
 -- ---- where it tears
 
--- what is a beginning of the file has no record behind its whole ones
+-- what is a prefix of the file has no record behind its whole ones
 none_left : (file : List ℕ) (v : ReplicaValue) (layout : Layout) (left : List ℕ) → IsStored file v layout → take (length left) file ≡ left → IsBegun (drop layout.whole left) → ⊥
 none_left file v layout left stored is begun = elim (cases_lt (length left) layout.whole) [
   | inl less ↦ nothing_begun (subst IsBegun (drop_all layout.whole left (omega (arith, less))) begun)

@@ -26,7 +26,7 @@ are_payloads old (c ∷ changes) new made =
 text_within : (format : Format) (b : Bool) (v : ReplicaValue) → length (snapshot_text_in format v) ≤ length (summed_text format b v)
 text_within format b v = omega (arith, length-append (snapshot_text_in format v) (sum_text b (snapshot_text_in format v)))
 
--- a beginning that is a whole file ends no later than all of them
+-- a prefix that is a whole file ends no later than all of them
 pub whole_within : (whole behind : List ℕ) (format : Format) (count : ℕ) (v w : ReplicaValue) (layout : Layout) → IsFile whole format count v → IsStored (whole ++ behind) w layout → length whole ≤ layout.whole
 whole_within whole behind format count v w layout file read = elim (stored_either format b first (journal_text payloads ++ behind) (whole ++ behind) w layout file.value file.within parts read) [
   | inl same ↦ longer same.0 same.1

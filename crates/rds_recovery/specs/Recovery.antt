@@ -93,8 +93,8 @@ NoneIsMadeUp file change layout left =
     → IsBrokenOff file layout.whole change.bytes left → FileHolds left found
     → (found ≡ change.before) ⊎ (found ≡ change.after)
 
--- No other record comes about where bytes come to the disk in their order: then a beginning of what stood there is left,
--- or a beginning of the record, or all of it.
+-- No other record comes about where bytes come to the disk in their order: then a prefix of what stood there is left,
+-- or a prefix of the record, or all of it.
 abbrev pub InOrderIsNoOther : List ℕ → ChangedValue → Layout → List ℕ → Type 0
 InOrderIsNoOther file change layout left =
     IsStored file change.before layout → IsRecordOf change

@@ -47,7 +47,7 @@ forked : (own peer : ReplicaValue) → mark_of (held_with own peer) ≢ mark_of 
 forked own peer other =
     by_other (same_mark (mark_of (held_with own peer)) (mark_of (held_with peer own))) (λ e. other ((same_decides (mark_of (held_with own peer)) (mark_of (held_with peer own))).0 e))
 
--- where the marks differ, a fork is told
+-- where the marks differ, a fork is reported
 pub ending_forked : (version : Version) (own peer : ReplicaValue) → tells_marks version ≡ true → mark_of (held_with own peer) ≢ mark_of (held_with peer own)
     → ending (last_mark version own peer) (last_mark version peer own) ≡ Forks
 ending_forked One own peer tells other = absurd (false≢true tells)

@@ -1,4 +1,4 @@
--- The whole talk of two sessions, and each beginning of it.
+-- The whole talk of two sessions, and each prefix of it.
 use Rattle.std.proofs.Common.{◌≡◌, ◌≢◌, ◌≤◌, ℕ, Bool, true, false, cond, List, [], ◌∷◌, ◌++◌, length, Option, Some, None, Ok, refl, sym, ap, ◌∙◌, subst, arith, ◌⊎◌, inl, inr}
 use Rattle.std.specs.List.{AllByRecursion}
 use Rattle.std.specs.Str.{bytes_eq}
@@ -370,7 +370,7 @@ module _ (version : Version) (a b : ReplicaValue) (h : CanMeet version a b) wher
 server_opens : (b : ReplicaValue) → after_opening (fresh Server b) ≡ (server b, [])
 server_opens b = opened_by (fresh Server b) [] refl refl tt
 
--- what is received of a beginning is nothing, or what is received of the whole
+-- what is received of a prefix is nothing, or what is received of the whole
 received_of : (s : Standing) (x w : List ℕ) (d : Delivery) → IsOrderly s → IsBeginningOf x w → (run_bytes w s).0.received ≡ Some d → ((run_bytes x s).0.received ≡ None) ⊎ ((run_bytes x s).0.received ≡ Some d)
 received_of s x w d orderly p whole =
     let mid = (run_bytes x s).0 in

@@ -1,4 +1,4 @@
--- Two sides that speak by turns: what each says in all, and each beginning of it.
+-- Two sides that speak by turns: what each says in all, and each prefix of it.
 use Rattle.std.proofs.Common.{◌≡◌, ℕ, ◌≤◌, Bool, true, false, cond, ltb, List, [], ◌∷◌, ◌++◌, length, Ok, refl, sym, ap, ◌∙◌, append_assoc, subst, ◌⊎◌, inl, inr}
 use Rattle.std.specs.List.{flat_map, AllByRecursion}
 use Rattle.std.proofs.lemmas.Bool.{le-ltb}
@@ -120,7 +120,7 @@ cases_begin (c ∷ x) (b ∷ u) v h =
 begin_trans : (x y z : List ℕ) → IsBeginningOf x y → IsBeginningOf y z → IsBeginningOf x z
 begin_trans x y z p q = (p.0 ++ q.0, q.1 ∙ ap (λ (t : List ℕ). t ++ q.0) p.1 ∙ append_assoc x p.0 q.0)
 
--- who hears a beginning says a beginning
+-- who hears a prefix says a prefix
 says_begin : (s : Standing) (x y : List ℕ) → IsBeginningOf x y → IsBeginningOf (says s x) (says s y)
 unfolding says
 says_begin s x y h = (says (run_bytes x s).0 h.0, ap (λ (t : List ℕ). (run_bytes t s).1) h.1 ∙ ap (λ (p : Sent). p.1) (run-append x h.0 s))
@@ -188,7 +188,7 @@ abbrev pub server_at : Standing → List Turn → Standing
 server_at s [] = s
 server_at s (t ∷ ts) = server_at t.server ts
 
--- each that hears a beginning of what the other says hears a beginning of all
+-- each that hears a prefix of what the other says hears a prefix of all
 pub beginnings : (ts : List Turn) (c s : Standing) (said : List (List ℕ)) (x y : List ℕ) → IsPlay c s said ts → IsBeginningOf x (says s y) → IsBeginningOf y (texts said ++ says c x)
     → IsBeginningOf x (texts (answers ts)) × IsBeginningOf y (texts (words said ts))
 beginnings [] c s said x y play p q =

@@ -18,7 +18,7 @@ use Rattle.rds_session.specs.Steps.{HasStanding, Continues}
 use Rattle.rds_session.specs.Leaving.{HasBegun, HasHeard, HasSent, IsOfCalls, IsWrittenUnless, Speaks}
 use Rattle.rds_session.proofs.Turns.{Came, appends_none, appends_then, consumes_none, heard_kept, heard_on}
 
--- bytes were written, and then a beginning of more
+-- bytes were written, and then a prefix of more
 pub part_written : (a b c : Option (List ℕ)) (x y : List ℕ) → Appends a b x → AppendsPart b c y → AppendsFront a c (x ++ y)
 part_written a b c x y first part =
     let n = part.0 in
@@ -84,7 +84,7 @@ pub spoken : (side : Side) (kept : ReplicaValue) (first now later before mid aft
 spoken side kept first now later before mid after i old new going came step (heard, is_heard, sent, has, written, begun) =
     spoken_by side kept first now later i old new (Appends before mid) (Appends mid after) (Appends before after) going came step (all_join before mid after) heard is_heard sent has written
 
--- a write failed, and a beginning of it was written
+-- a write failed, and a prefix of it was written
 pub part_spoken : (WriteFailed : Type 0) (side : Side) (kept : ReplicaValue) (first now later before mid after : Option (List ℕ)) (i : Option (List ℕ)) (old new : Standing) → old.ended ≡ Going → Came now later i
     → StepsOn old new i (AppendsPart mid after) → WriteFailed → Speaks side kept first now old (Appends before mid) → Speaks side kept first later new (IsWrittenUnless WriteFailed before after)
 part_spoken WriteFailed side kept first now later before mid after i old new going came step failed (heard, is_heard, sent, has, written, begun) =

@@ -48,8 +48,8 @@ coded_mark = code_by (ℕ × ℕ) (coded× coded_ℕ coded_ℕ) (λ m. (m.high, 
 abbrev coded_delivery : Coded Delivery
 coded_delivery = coded× coded_state (coded_option coded_roster)
 
--- the peer, where it is known, and its digest; else the side that a HELLO comes to; else the own mark, where it is told.
--- Beside a peer a side says that its digest is waited for whole
+-- the peer, where it is known, and its digest; else the side that a HELLO comes to; else the own mark, where it is
+-- reported. Beside a peer a side says that its digest is waited for whole
 abbrev Known : Type 0
 Known = Option (Peer × Option DigestValue) × (Option Side × Option Mark)
 

@@ -46,7 +46,7 @@ pub data Awaited : Type 0 where
   ForBye : (mark : Option Mark) → Awaited
 
 -- what an accepted message says. The peer shares the own digest where its hash is that one's, and misses it else. A
--- delta comes with the mark of what is held with it, where one is told
+-- delta comes with the mark of what is held with it, where one is reported
 pub data Said : Type 0 where
   Greets : (peer : Peer) → Said
   Learns : (peer : Peer) (digest : DigestValue) → Said
@@ -125,7 +125,8 @@ one_begins ns ms = starts_with bytes_eq ms ns || starts_with bytes_eq ns ms
 abbrev pub longer_than : RosterValue → RosterValue → Option RosterValue
 longer_than own other = if nat_lt (length own.names) (length other.names) then Some other else None
 
--- the version that is spoken with a peer that says one: a server speaks any that its client does, a client its own alone
+-- the version that is spoken with a peer that says one: a server speaks any that its client does, a client its own
+-- alone
 abbrev pub version_with : Side → ℕ → Option Version
 version_with Server byte = version_said byte
 version_with (Client version) byte = if byte == version_byte version then Some version else None

@@ -40,7 +40,7 @@ HasBegun _ = Unit {0}
 abbrev pub Speaks : Side → ReplicaValue → Option (List ℕ) → Option (List ℕ) → Standing → (List ℕ → Type 0) → Type 0
 Speaks side kept first now s IsWritten = (heard : Heard) × IsHeard first now heard × (sent : List ℕ) × HasSent side kept heard s sent × IsWritten sent × HasBegun heard
 
--- all of it was written; or a write failed, and a beginning of it was written
+-- all of it was written; or a write failed, and a prefix of it was written
 abbrev pub IsWrittenUnless : Type 0 → Option (List ℕ) → Option (List ℕ) → List ℕ → Type 0
 IsWrittenUnless WriteFailed before after sent = Appends before after sent ⊎ (WriteFailed × AppendsFront before after sent)
 
@@ -57,7 +57,7 @@ pub record IsOfSession (side : Side) (kept : ReplicaValue) (received : Option De
 
 -- what a session came to over a reader and a writer: it took a step, it heard the bytes that the reader held at first
 -- and doesn't hold now, each once and in order, and this is what it received; all that it sent was written and it ended
--- so; or a call failed, and all that it sent was written, or where that call was a write a beginning of it
+-- so; or a call failed, and all that it sent was written, or where that call was a write a prefix of it
 pub record IsOfCalls (side : Side) (kept : ReplicaValue) (first now before after : Option (List ℕ)) (WriteFailed : Type 0) (received : Option Delivery) (ended : Ended) : Type 0 where
   pub session : Standing
   pub heard : Heard

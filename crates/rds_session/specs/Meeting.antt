@@ -35,7 +35,8 @@ use Rattle.rds_session.specs.Versions.{delta_format, says_hashes, tells_marks}
 abbrev pub IsBeginningOf : List ℕ → List ℕ → Type 0
 IsBeginningOf x y = (rest : List ℕ) × (y ≡ x ++ rest)
 
--- what one tells the other, in a version, is within the limit: also its digest as it says it first, and behind the other's
+-- what one tells the other, in a version, is within the limit: also its digest as it says it first, and behind the
+-- other's
 pub record FitsMessages (version : Version) (from to : ReplicaValue) : Type 0 where
   pub hello : length (hello_message from version) ≤ MESSAGE_LIMIT
   pub first : length (digest_said (says_hashes version) version from) ≤ MESSAGE_LIMIT
@@ -64,7 +65,7 @@ pub record IsItsLeast (peer own : ReplicaValue) (received : Option Delivery) : T
 abbrev pub IsItsDelta : ReplicaValue → ReplicaValue → Option Delivery → Type 0
 IsItsDelta peer own received = (received ≡ None) ⊎ IsItsLeast peer own received
 
--- the client hears x and the server y, each a beginning of what the other sent
+-- the client hears x and the server y, each a prefix of what the other sent
 pub record Hear (version : Version) (a b : ReplicaValue) (x y : List ℕ) : Type 0 where
   pub client : IsBeginningOf x (course Server b (So_far y)).1
   pub server : IsBeginningOf y (course (Client version) a (So_far x)).1

@@ -100,7 +100,7 @@ bye_of b =
 abbrev pub bye_message : ByeCode → List ℕ
 bye_message code = type_byte kinds.Bye ∷ byte_of code ∷ []
 
--- the last BYE of a session that is done, with the mark of what is held then, where one is told
+-- the last BYE of a session that is done, with the mark of what is held then, where one is reported
 abbrev pub done_message : Option Mark → List ℕ
 done_message None = bye_message byes.Done
 done_message (Some mark) = type_byte kinds.Bye ∷ byte_of byes.Done ∷ mark_bytes mark

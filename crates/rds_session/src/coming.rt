@@ -44,7 +44,7 @@ impl<U: Fed> Model for Coming<U> {
     ghost invariant = { λ c. HoldsText U.finish (U.reader c.format c.replicas) c.text c.came.bytes };
 }
 
-// The feed with the next bytes. But for want of memory, a fault comes in its place.
+// The feed with the next bytes. But for `Memory`, a fault comes in its place.
 fn fed_with<U: Fed>(
     text: Result<Feed<U>, Fault>,
     piece: &[u8],

@@ -24,14 +24,14 @@ pub fn a_course_is_by_messages()
 /// Two sessions, a client's and a server's, of replicas with different numbers and rosters one of which begins the
 /// other. Their messages, in the client's version, are all within the limit.
 ///
-/// Where each hears a beginning of what the other sent, wherever it was cut, each has received nothing, or exactly what
+/// Where each hears a prefix of what the other sent, wherever it was cut, each has received nothing, or exactly what
 /// the other has and it lacks, and the other's roster exactly where that is longer. Where each hears all that the other
 /// sent, both have received that and both are done. From version 3 on no dot may be live in both with different entries
-/// for that. Where the marks of what they hold by then, their joins, differ, both tell a fork. All this holds in versions
-/// 4 and 5, which say digests by hashes, or two different texts of digests have one SHA-256.
+/// for that. Where the marks of what they hold by then, their joins, differ, both tell a fork. All this holds in
+/// versions 4 and 5, which say digests by hashes, or two different texts of digests have one SHA-256.
 ///
-/// And of any session: the end of a stream takes nothing from what was received. The function does nothing: its contract
-/// is these laws.
+/// And of any session: the end of a stream takes nothing from what was received. The function does nothing: its
+/// contract is these laws.
 pub fn two_sessions()
     ensures receive { ReceiveDeltas }
     ensures end { BothEnd }
@@ -43,10 +43,10 @@ pub fn two_sessions()
 /// A server hears all that a client says in a whole session in any version, however its messages were cut. The two
 /// replicas have different numbers and rosters one of which begins the other, and their messages are within the limit.
 /// From version 3 on no dot is live in both with different entries. Then the server has said HELLO with the client's
-/// version and its delta in that version's format, and is done. It has received exactly what the client has and it lacks,
-/// and the client's roster exactly where that is longer. From version 4 on each says a digest that both have by its hash,
-/// and two that differ whole; all this holds there, or two different texts of digests have one SHA-256. The function does
-/// nothing: its contract is this law.
+/// version and its delta in that version's format, and is done. It has received exactly what the client has and it
+/// lacks, and the client's roster exactly where that is longer. From version 4 on each says a digest that both have by
+/// its hash, and two that differ whole; all this holds there, or two different texts of digests have one SHA-256. The
+/// function does nothing: its contract is this law.
 pub fn a_server_speaks_its_clients_version()
     ensures { ServesEach }
 {}

@@ -136,7 +136,7 @@ pub fn send_bye(send: &mut Vec<u8>, code: ByeCode) -> Result<bool, Fault>
     put_message(send, MessageKind::Bye, &[code.byte()])
 }
 
-// Adds the BYE of a session that is done, with a mark where one is told.
+// Adds the BYE of a session that is done, with a mark where one is reported.
 fn send_done(alloc: Global, send: &mut Vec<u8>, mark: Option<Mark>) -> Result<bool, Fault>
     ensures { SendsOne send.old.items send.new.items (done_message mark) result }
 {
@@ -152,8 +152,8 @@ fn send_done(alloc: Global, send: &mut Vec<u8>, mark: Option<Mark>) -> Result<bo
     }
 }
 
-/// Adds the messages by which a side makes itself known in this version: who speaks, and what is kept here, by a hash or
-/// whole.
+/// Adds the messages by which a side makes itself known in this version: who speaks, and what is kept here, by a hash
+/// or whole.
 pub fn send_opening<S: DotSet>(
     alloc: Global,
     send: &mut Vec<u8>,

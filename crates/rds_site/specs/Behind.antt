@@ -12,7 +12,7 @@ use Rattle.rds_http.specs.Site.{SiteValue}
 abbrev pub is_edit : Request (List ℕ) → Bool
 is_edit request = is_own_change (asked_in request)
 
--- the fault is told
+-- the fault is reported
 abbrev pub TellsBehind : Response → Type 0
 TellsBehind response =
     Tells 409 json

@@ -17,7 +17,7 @@ use std::time::Duration;
 /// So many bytes of a method and of a target are told at most: strangers choose them.
 const MOST_TOLD: usize = 200;
 
-/// How many bytes of an escape may stand at the end of what is told, which isn't whole then.
+/// How many bytes of an escape may stand at the end of what is reported, which isn't whole then.
 const PART: usize = 2;
 
 /// The lines of a turn, but for the time that it takes. Where there is no memory for one it is left out.
@@ -151,7 +151,7 @@ where
 }
 
 // A line: the client's address, the method, the target, the status, and how many bytes the answer's body has. Three
-// dots stand behind a method or a target of which a part is told.
+// dots stand behind a method or a target of which a part is reported.
 fn line_of(
     alloc: Global,
     client: SocketAddr,
@@ -187,7 +187,7 @@ fn push_visible(text: &mut String, bytes: &[u8]) -> Result<(), AllocError> {
     Ok(())
 }
 
-// Adds what is told of visible characters: all, or the first of them without a part of an escape.
+// Adds what is reported of visible characters: all, or the first of them without a part of an escape.
 fn push_told(line: &mut String, text: &str) -> Result<(), AllocError> {
     match text.get(..told_len(text.as_bytes())) {
         Some(told) if told.len() < text.len() => write!(line, "{told}..."),

@@ -59,7 +59,7 @@ impl Sent {
     }
 }
 
-/// Under which token what happens to a peer's connections is told, and by what.
+/// Under which token what happens to a peer's connections is reported, and by what.
 #[derive(Clone, Copy)]
 pub struct Line<'r> {
     pub registry: &'r Registry,
@@ -85,7 +85,7 @@ impl Socket {
         }
     }
 
-    /// Begins to connect with a peer. What follows is told by an event under the token.
+    /// Begins to connect with a peer. What follows is reported by an event under the token.
     pub fn dial<H: Disk + Net>(
         rt: &H,
         _committed: &Committed<'_, '_, H>,

@@ -93,9 +93,9 @@ where
         Ok(())
     }
 
-    // Keeps what changed, and sends what is due. Answers when it was kept: from then on clients and peers have their time
-    // to take what is sent, however long the turn took. Many connections may have taken all other descriptors, so those
-    // in reserve are let go for it.
+    // Keeps what changed, and sends what is due. Answers when it was kept: from then on clients and peers have their
+    // time to take what is sent, however long the turn took. Many connections may have taken all other descriptors, so
+    // those in reserve are let go for it.
     fn send(&mut self, rt: &H) -> Result<Instant, Fault>
     where
         H: Net,
@@ -122,7 +122,7 @@ where
     }
 
     // Answers in memory what clients and peers say, and begins what is due. What clients change is due to all peers.
-    // Where it shows that the file is behind, that is told once.
+    // Where it shows that the file is behind, that is reported once.
     fn hear(&mut self, rt: &H) {
         let was_behind = self.logged.is_behind;
         self.note();

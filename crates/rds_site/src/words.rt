@@ -11,7 +11,7 @@ pub struct SiteWords<'a> {
     pub token_file: Option<&'a str>,
     /// Whether others than this machine may come without a token.
     pub is_open: bool,
-    /// Whether each request is told by a line on standard output.
+    /// Whether each request is reported by a line on standard output.
     pub log: bool,
     /// The other nodes that it meets, each as `HOST:PORT`.
     pub peers: &'a [&'a str],

@@ -157,7 +157,7 @@ refusal a own (Clear p) = None
 refusal a own (Inc k by) = count_fault (a.number (place k own P) + by)
 refusal a own (Dec k by) = count_fault (a.number (place k own N) + by)
 
--- the fault that is due, or want of memory where none is
+-- the fault that is due, or Memory where none is
 abbrev pub IsDue : Option Fault → Fault → Type 0
 IsDue due Memory = due ≡ None
 IsDue due f = due ≡ Some f

@@ -24,7 +24,7 @@ pub record MayTake (own : ℕ) (a d : Coordinates) : Type 0 where
   pub compatible : AreCompatible a d
   pub knows : KnowsItsOwn own a d
 
--- what a take answers for a friend's state: nothing is refused, but for want of memory
+-- what a take answers for a friend's state: nothing is refused, but for Memory
 abbrev pub FriendsAreTaken : Type 0
 FriendsAreTaken = (own peer : ℕ) (a d : StateValue) (answer : Result (Unit {0}) Fault)
     → AreFriends own (coordinates a) peer (coordinates d) → TakeGives a own d answer → (answer ≡ Ok tt) ⊎ (answer ≡ Err Memory)

@@ -37,7 +37,7 @@ pub fn join_laws()
 {}
 
 /// Replicas are friends where they are compatible, and each has all that the other has of its own. A take of a
-/// friend's state is refused for want of memory alone. The function does nothing: its contract is this law.
+/// friend's state is refused with `Memory` alone. The function does nothing: its contract is this law.
 pub fn friends_take_each_other()
     ensures { FriendsAreTaken }
 {}

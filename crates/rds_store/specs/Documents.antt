@@ -41,7 +41,7 @@ pub record IsGrownBy (name : List ℕ) (before after : ReplicaValue) : Type 0 wh
   pub own : after.own ≡ before.own
   pub state : after.state ≡ before.state
 
--- why a roster doesn't grow: the text is no name, or no roster has this name too; or want of memory
+-- why a roster doesn't grow: the text is no name, or no roster has this name too; or Memory
 abbrev pub RefusesGrowth : List ℕ → ReplicaValue → Fault → Type 0
 RefusesGrowth name before fault =
     (fault ≡ Memory)

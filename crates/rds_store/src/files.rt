@@ -69,7 +69,7 @@ where
     H::File: LockFile,
 {
     /// Locks the file of this path, and reads its document. Refuses as [`LockedFile::open`] does; another that has the
-    /// lock is waited for some ten seconds, but not a node: its address is told at once.
+    /// lock is waited for some ten seconds, but not a node: its address is reported at once.
     pub fn open(rt: &H, path: &'a str) -> Result<DocumentFile<'a, H>, Fault>
         ensures held { IfOk result (λ f. IsHeldAt path.now (record { path = f.path; kept = f.kept })) }
         ensures document { IfOk result (λ f. f.document ≡ f.kept) }

@@ -1,4 +1,4 @@
-//! What is told of a document.
+//! What is reported of a document.
 ghost use Rattle.std.specs.Prelude.{◌≡◌, ◌⊎◌, IfOk, IfErr, string_bytes};
 ghost use Rattle.rds_json.specs.Standing.{standing_data};
 ghost use Rattle.rds_lines.specs.Overview.{IsOverview};

@@ -81,7 +81,7 @@ fn reading_text(alloc: Global, reading: Reading) -> Result<String, AllocError> {
     format!(in alloc; "{whole} and {state}")
 }
 
-/// `record-cuts BYTES`: what is read of each beginning of the bytes, from the least length on at which it is that.
+/// `record-cuts BYTES`: what is read of each prefix of the bytes, from the least length on at which it is that.
 fn cuts(alloc: Global, digits: &str) -> Result<String, Fault> {
     let bytes = bytes_of(alloc, digits)?;
     let mut told = String::new(alloc);
@@ -118,8 +118,8 @@ fn flips(alloc: Global, digits: &str) -> Result<String, Fault> {
     Ok(told)
 }
 
-/// `torn-times COUNT*BYTES ..`: whether the bytes, so many times one behind the other, are a torn end, where several are
-/// named behind one another.
+/// `torn-times COUNT*BYTES ..`: whether the bytes, so many times one behind the other, are a torn end, where several
+/// are named behind one another.
 fn torn_times(alloc: Global, row: &str) -> Result<String, Fault> {
     let mut all = Vec::new(alloc);
     for part in row.split_whitespace() {
@@ -135,8 +135,8 @@ fn torn_times(alloc: Global, row: &str) -> Result<String, Fault> {
 
 /// `record-appended END TORN FAILS ROOM TEXT FILE`: appends the text to a file whose whole records end there, with a
 /// torn end behind them or not; the call with this number fails, and the file has room for so many bytes. Answers what
-/// came of it, what stands in the file, and what crashes may leave: with half of the first call since the last sync, and
-/// none behind it, with the first and half of the next, and so on.
+/// came of it, what stands in the file, and what crashes may leave: with half of the first call since the last sync,
+/// and none behind it, with the first and half of the next, and so on.
 fn appended(alloc: Global, row: &str) -> Result<String, Fault> {
     let (end, row) = cut(row)?;
     let (torn, row) = cut(row)?;

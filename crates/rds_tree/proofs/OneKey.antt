@@ -83,7 +83,7 @@ none_below key (e ∷ es) h =
     let n = none_stepped key e.kind e.value e.path _ h in
     ap (λ o. cons_option o (below key es)) n.0 ∙ none_below key es n.1
 
--- ---- what is told of the children
+-- ---- what is reported of the children
 
 module _ {X : Type 0} (t : List ℕ × List Placed → Option (List ℕ × X)) (own : (key k : List ℕ) (es : List Placed) → only_rows key (option_to_list (t (k, es))) ≡ cond (same_key key k) (option_to_list (t (k, es))) []) (nothing : (k : List ℕ) → t (k, []) ≡ None) where
   own_key : (key : List ℕ) (es : List Placed) → TellsOwn key (λ k. t (k, below k es))

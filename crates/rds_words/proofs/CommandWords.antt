@@ -34,7 +34,7 @@ shape_behind command = unwrap_or (find (λ s. answers_to command (label_of s)) (
 abbrev pub row : Text → List Text → Row
 row id values = record { id = id; values = values; count = None; source = Some CommandLine; reading = reading_of (parser_of_value (Some String)) }
 
--- where no kind may come but want of memory, it is the kind
+-- where no kind may come but Memory, it is the kind
 pub is_memory : (kinds : Kinds) (e : Error) → kinds ≡ [] → HasKind kinds e → kind_of e ≡ OutOfMemory
 is_memory [] e none h = elim h [ inl memory ↦ memory | inr other ↦ absurd other ]
 is_memory (k ∷ ks) e none h = absurd cc

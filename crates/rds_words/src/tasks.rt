@@ -233,7 +233,7 @@ pub struct RunWords<'a> {
     pub token_file: Option<&'a str>,
     /// Whether other machines may come, also where there is no token.
     pub is_open: bool,
-    /// Whether each request is told by a line on standard output.
+    /// Whether each request is reported by a line on standard output.
     pub log: bool,
 }
 

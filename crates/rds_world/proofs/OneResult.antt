@@ -98,7 +98,7 @@ one_done v x w (Grow r name) s t due a b h k = grown_is v w r name a h ∙ sym (
 
 -- ---- why an event is refused
 
--- what is accepted is refused for want of memory alone
+-- what is accepted is refused with Memory alone
 accepted_too : (v : WorldValue) (w : World) (e : Event) → IsAccepted v w e → (f : Fault) → RefusesEvent v w e f
     → f ≡ Memory
 accepted_too v w e a f (NoMemory due takes) = refl

@@ -66,7 +66,7 @@ not_there r n due h = ap (λ b. unless_there b due) (le-ltb r n h)
 pub stopped : (v : WorldValue) (e : Event) (f : Fault) → ((w : World) → Stands v w → RefusesEvent v w e f) → IsStopped v e f v
 stopped v e f h = record { refused = h; same = refl }
 
--- want of memory, where nothing is in the way that is found without memory
+-- Memory, where nothing is in the way that is found without memory
 pub no_memory : (v : WorldValue) (e : Event) (f : Fault) → f ≡ Memory → ((w : World) → Stands v w → refusal_of w e ≡ None) → ((w : World) → TakesMemory w e) → IsStopped v e f v
 no_memory v e f is due takes = subst (λ x. IsStopped v e x v) (sym is) (stopped v e Memory (λ w s. NoMemory (due w s) (takes w)))
 

@@ -66,7 +66,7 @@ same_replicas r q names xs ys f same px py nx ny len fx fy = same_list xs ys len
 abbrev ranked : Bool → Bool → ℕ
 ranked live seen = cond live 1 (cond seen 2 0)
 
--- what is live and what is seen is told by the rank, where what is live is seen
+-- what is live and what is seen is known by the rank, where what is live is seen
 same_ranked : (l s m t : Bool) → (l ≡ true → s ≡ true) → (m ≡ true → t ≡ true) → ranked l s ≡ ranked m t → (l ≡ m) × (s ≡ t)
 same_ranked true s true t a b e = (refl, a refl ∙ sym (b refl))
 same_ranked true s false true a b e = absurd (omega (arith, e))

@@ -84,7 +84,7 @@ ReplicasAreFriends w = (x y : Store) (r s : ℕ) → r ≢ s → AreFriends r (s
 abbrev pub AnswersMayBeTaken : World → Type 0
 AnswersMayBeTaken w = (k : ℕ) (m : Reply) → slice_get w.answers k ≡ Some m → MayTake m.asker (w.memory m.asker) m.state
 
--- a take of an answer is refused for want of memory alone
+-- a take of an answer is refused with Memory alone
 abbrev pub NoDeliveryIsRefused : World → Type 0
 NoDeliveryIsRefused w = (k : ℕ) (m : Reply) (a d : StateValue) (result : Result (Unit {0}) Fault) → slice_get w.answers k ≡ Some m
     → coordinates a ≡ w.memory m.asker → coordinates d ≡ m.state → TakeGives a m.asker d result → (result ≡ Ok tt) ⊎ (result ≡ Err NoMemory)
@@ -95,8 +95,8 @@ EditsAreSteps = (a b : Coordinates) (own : ℕ) (c : Command) → JoinsEffect a 
 
 -- ---- rosters
 
--- Each replica of the roster knows its own name; what it has kept isn't longer than what it has in memory, nor that than the
--- world's roster; and each state speaks only of the replicas that the roster beside it names.
+-- Each replica of the roster knows its own name; what it has kept isn't longer than what it has in memory, nor that
+-- than the world's roster; and each state speaks only of the replicas that the roster beside it names.
 pub record HasRosters (w : World) : Type 0 where
   pub named : w.replicas ≡ length w.roster
   pub own : (r : ℕ) → r < w.replicas → r < w.kept_names r

@@ -70,7 +70,7 @@ TakesMemory w (Answer s k) = Unit {0}
 TakesMemory w (Take k) = Unit {0}
 TakesMemory w (Grow r name) = Unit {0}
 
--- What the model refuses it for; else a text that is made too long, or want of memory. That comes after what the
+-- What the model refuses it for; else a text that is made too long, or Memory. That comes after what the
 -- model refuses, which is found without memory. It may come where a text is too long: its length is found with memory.
 pub data RefusesEvent (v : WorldValue) (w : World) (e : Event) : Fault → Type 0 where
   NoMemory : refusal_of w e ≡ None → TakesMemory w e → RefusesEvent v w e Memory

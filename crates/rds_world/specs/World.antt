@@ -124,7 +124,7 @@ after w (Grow r name) = record w {
 abbrev pub unless_there : Bool → Option Fault → Option Fault
 unless_there there due = cond there due (Some NoSuch)
 
--- why an event is refused, but for want of memory and for texts beyond their limits
+-- why an event is refused, but for Memory and for texts beyond their limits
 abbrev pub refusal_of : World → Event → Option Fault
 refusal_of w (Edit r c) = unless_there (nat_lt r w.replicas) (refusal (w.memory r) r c)
 refusal_of w (Save r) = unless_there (nat_lt r w.replicas) None

@@ -47,7 +47,7 @@ pub fn rosters_grow()
     ensures step { KeepsRosters }
 {}
 
-/// In a coherent world every two replicas are friends, and no take of an answer is refused but for want of memory,
+/// In a coherent world every two replicas are friends, and no take of an answer is refused but for `Memory`,
 /// whatever its asker did since, and however often it was taken before. The function does nothing: its contract is
 /// these laws.
 pub fn coherent_replicas_are_friends()
@@ -76,12 +76,12 @@ pub fn edits_are_steps()
     ensures { EditsAreSteps }
 {}
 
-/// The replicas that [`simulate`](crate::simulate) answers obey the law, as its clauses `reached` and `stopped` say what
-/// they stand for. Where all events happened, each state is the join of the effects of the updates that it holds, and
-/// those that hold the same updates are equal; each dot seen is that of exactly one update held; the document is that of
-/// the updates; and the bytes of each answer bring its asker the join with what its maker had kept. Wherever the list
-/// stopped, every two states are compatible, and every two replicas are friends. The function does nothing: its contract
-/// is these laws.
+/// The replicas that [`simulate`](crate::simulate) answers obey the law, as its clauses `reached` and `stopped` say
+/// what they stand for. Where all events happened, each state is the join of the effects of the updates that it holds,
+/// and those that hold the same updates are equal; each dot seen is that of exactly one update held; the document is
+/// that of the updates; and the bytes of each answer bring its asker the join with what its maker had kept. Wherever
+/// the list stopped, every two states are compatible, and every two replicas are friends. The function does nothing:
+/// its contract is these laws.
 pub fn replicas_obey_the_law()
     ensures joins { OfReached ReplicasAreJoins }
     ensures documents { OfReached ReplicasShowTheirUpdates }
@@ -92,7 +92,7 @@ pub fn replicas_obey_the_law()
     ensures friends { OfAnswered ReplicasStayFriends }
 {}
 
-/// A run of two lists is the run of the first, and then of the second; so each beginning of an accepted list is
+/// A run of two lists is the run of the first, and then of the second; so each prefix of an accepted list is
 /// accepted. The function does nothing: its contract is these laws.
 pub fn runs_go_on()
     ensures run { (es fs : List Happening) (w : World) → run (es ++ fs) w ≡ run fs (run es w) }

@@ -15,7 +15,7 @@ const PANE: usize = 1_024;
 impl<W: Write> Counted<W> {
     /// Writes what the text's own `fmt` shows of it, taking no memory. It shows it to a pane of some bytes, again for
     /// each that it fills, and the pane's bytes are written: so what was written before stays, whatever `fmt` does.
-    /// `Device` is a call of the writer that failed, and never a `fmt` that gives up: then a beginning is written.
+    /// `Device` is a call of the writer that failed, and never a `fmt` that gives up: then a prefix is written.
     pub fn write_shown<D: Display + Drop>(&mut self, text: D) -> Result<(), Fault>
         ensures bytes { BytesGrow (W.contents self.old.inner) (W.contents self.new.inner) }
         ensures fault { IfErr result (λ e. e ≡ Device) }

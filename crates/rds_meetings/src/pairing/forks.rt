@@ -33,7 +33,7 @@ fn are_forked<S: DotSet>(one: &Replica<S>, other: &Replica<S>) -> bool
     conflict.is_some() && one.roster().meets(other.roster())
 }
 
-/// Writes the line of `Forked` where a fork is told, else nothing.
+/// Writes the line of `Forked` where a fork is reported, else nothing.
 pub fn write_fork<W: Write>(writer: &mut Counted<W>, told: bool) -> Result<(), Fault>
     ensures bytes { OnOk result (Appends (W.contents writer.old.inner) (W.contents writer.new.inner) (fork_text told)) }
     ensures steady { OnOk result (writer.new.failed ≡ writer.old.failed) }

@@ -3,7 +3,8 @@ use rds_names::Fault;
 use std::alloc::Global;
 use std::fmt::Write;
 
-/// A line for each outcome, behind the number at which it first came. One that is as the one before isn't told again.
+/// A line for each outcome, behind the number at which it first came. One that is as the one before isn't reported
+/// again.
 #[derive(Drop)]
 pub struct Outcomes {
     lines: String,

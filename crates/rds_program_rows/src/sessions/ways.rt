@@ -60,7 +60,7 @@ impl Way {
     }
 }
 
-/// What comes of the session for each number of a way. It is told once where it stays the same.
+/// What comes of the session for each number of a way. It is reported once where it stays the same.
 pub fn each_outcome<S: DotSet>(
     alloc: Global,
     end: &End<S>,

@@ -14,7 +14,7 @@ use std::path::PathBuf;
 use std::rt::Files;
 use std::time::{Clock, Duration};
 
-/// The files of the host, of which each call is told, and the connection.
+/// The files of the host, of which each call is reported, and the connection.
 #[derive(Drop)]
 pub struct Wired<'a> {
     pub rt: &'a HostRuntime,
