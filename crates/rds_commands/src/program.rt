@@ -40,7 +40,7 @@ use std::net::Net;
 ///
 /// A fault is written as the line `fault N: Name` and answered by 1. Words that the command line
 /// doesn't have are `Usage`: that line, then the library's text, and 2. Help and the version are written
-/// and answered by 0. A reader that fails, or that gives more reads than its bound of turns, is `Device`. Where
+/// and answered by 0. A reader that fails, or that gives more reads than its budget, is `Device`. Where
 /// the output itself fails the answer is 1, and of `join` and `sim` a prefix of what is due was written.
 pub fn run<H: Disk + Net, R: Read, W: Write, S: AsStr, T: RunSite<H>>(
     rt: &H,

@@ -23,7 +23,7 @@ pub record IsFedSoFar {R U V : Type 0} (remaining : R → Option (List ℕ)) (fi
   pub spent : count ≤ most_read (first.left - now.left)
   pub steady : now.failed ≡ first.failed
   pub left : now.left ≤ first.left
-  pub turns : now.turns ≡ first.turns
+  pub budget : now.budget ≡ first.budget
   pub renamed : now.renamed ≡ first.renamed
 
 module _ {U V : Type 0} (finish : U → Reader V) where

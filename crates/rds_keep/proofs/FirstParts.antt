@@ -35,13 +35,13 @@ use Rattle.rds_keep.proofs.Fronts.{magic_is_four}
 -- ---- why there is none
 
 -- the first four bytes
-pub magic_refuses : (known : Option (List ℕ)) (turns : ℕ) (e : Fault) → (e ≡ Bad → IfSome known IsForeign) → (e ≡ Cut → IfSome known (IsShort turns)) → (e ≡ Bad) ⊎ ((e ≡ Cut) ⊎ ((e ≡ Memory) ⊎ (e ≡ Device)))
+pub magic_refuses : (known : Option (List ℕ)) (budget : ℕ) (e : Fault) → (e ≡ Bad → IfSome known IsForeign) → (e ≡ Cut → IfSome known (IsShort budget)) → (e ≡ Bad) ⊎ ((e ≡ Cut) ⊎ ((e ≡ Memory) ⊎ (e ≡ Device)))
     → IfSome known (λ input. RefusesBytes input e)
-magic_refuses None turns e foreign short why = tt
-magic_refuses (Some input) turns e foreign short (inl bad) = rw bad (none_stored input Bad (front_bad input (foreign bad)))
-magic_refuses (Some input) turns e foreign short (inr (inl cut)) = rw cut (let is = short cut in front_cut input is.0)
-magic_refuses (Some input) turns e foreign short (inr (inr (inl memory))) = rw memory tt
-magic_refuses (Some input) turns e foreign short (inr (inr (inr device))) = rw device tt
+magic_refuses None budget e foreign short why = tt
+magic_refuses (Some input) budget e foreign short (inl bad) = rw bad (none_stored input Bad (front_bad input (foreign bad)))
+magic_refuses (Some input) budget e foreign short (inr (inl cut)) = rw cut (let is = short cut in front_cut input is.0)
+magic_refuses (Some input) budget e foreign short (inr (inr (inl memory))) = rw memory tt
+magic_refuses (Some input) budget e foreign short (inr (inr (inr device))) = rw device tt
 
 -- those behind them
 front_refuses : (read : Reader Snapshot) (bytes : List ℕ) (e : Fault) → read bytes ≡ snapshot_in_at bytes → (e ≡ Device) ⊎ IsOtherFault e → RefusesFront read bytes e → RefusesBytes bytes e
@@ -154,9 +154,9 @@ module _ (read : Reader Snapshot) (same : (bytes : List ℕ) → read bytes ≡ 
   too_long_refuses size e is why =
       long_refuses first last all_given size e all_consumed (omega (arith, is, ap length all_parts, length-append (snapshot_text_in s.0 s.1) held)) why
 
-  pub first_bound : (turns left left2 left3 : ℕ) → IsMagic front → 4 ≤ most_read (turns - left) → count ≤ length front + most_read (left - left2) → length held ≤ length behind + most_read (left2 - left3)
-      → left ≤ turns → left2 ≤ left → left3 ≤ left2 → ConsumesAtMost first last (most_read (turns - left3))
-  first_bound turns left left2 left3 magic one two three le le2 le3 = (
+  pub first_bound : (budget left left2 left3 : ℕ) → IsMagic front → 4 ≤ most_read (budget - left) → count ≤ length front + most_read (left - left2) → length held ≤ length behind + most_read (left2 - left3)
+      → left ≤ budget → left2 ≤ left → left3 ≤ left2 → ConsumesAtMost first last (most_read (budget - left3))
+  first_bound budget left left2 left3 magic one two three le le2 le3 = (
     all_given,
     (let four = magic_is_four front magic in
         omega (arith, four, one, two, three, le, le2, le3, leads.size, ap length more.held, length-append behind more.given, length-append leads.given more.given, length-append front (leads.given ++ more.given))),

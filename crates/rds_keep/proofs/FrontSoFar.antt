@@ -18,7 +18,7 @@ pub record IsFrontSoFar {R : Type 0} (remaining : R → Option (List ℕ)) (firs
   pub spent : length front ≤ length before + most_read (first.left - now.left)
   pub steady : now.failed ≡ first.failed
   pub left : now.left ≤ first.left
-  pub turns : now.turns ≡ first.turns
+  pub budget : now.budget ≡ first.budget
   pub renamed : now.renamed ≡ first.renamed
 
 -- a read that gave n bytes adds them to the front

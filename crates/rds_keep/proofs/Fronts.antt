@@ -111,14 +111,14 @@ is_foreign (Some input) front e same is bad = elim (refused_as front e is) [
   | inr why ↦ foreign input front same why.1 why.2
 ]
 
-short : (input front : List ℕ) (turns left : ℕ) → front ≡ take 4 input → length front < 4 → length front ≤ most_read (turns - left) → IsShort turns input
-short input front turns left same lt bound = (omega (arith, lt, ap length same, length-take 4 input), omega (arith, lt, ap length same, length-take 4 input, bound))
+short : (input front : List ℕ) (budget left : ℕ) → front ≡ take 4 input → length front < 4 → length front ≤ most_read (budget - left) → IsShort budget input
+short input front budget left same lt bound = (omega (arith, lt, ap length same, length-take 4 input), omega (arith, lt, ap length same, length-take 4 input, bound))
 
-pub is_short : (known : Option (List ℕ)) (front : List ℕ) (e : Fault) (turns left : ℕ) → IfSome known (λ input. front ≡ take 4 input) → length front ≤ most_read (turns - left) → format_at front ≡ Err e → e ≡ Cut
-    → IfSome known (IsShort turns)
-is_short None front e turns left same bound is cut = tt
-is_short (Some input) front e turns left same bound is cut = elim (refused_as front e is) [
-  | inl why ↦ short input front turns left same why.1 bound
+pub is_short : (known : Option (List ℕ)) (front : List ℕ) (e : Fault) (budget left : ℕ) → IfSome known (λ input. front ≡ take 4 input) → length front ≤ most_read (budget - left) → format_at front ≡ Err e → e ≡ Cut
+    → IfSome known (IsShort budget)
+is_short None front e budget left same bound is cut = tt
+is_short (Some input) front e budget left same bound is cut = elim (refused_as front e is) [
+  | inl why ↦ short input front budget left same why.1 bound
   | inr bad ↦ absurd (let b = bad.0 in let no : ⊥ = cc in no)
 ]
 

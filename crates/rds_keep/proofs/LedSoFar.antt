@@ -30,7 +30,7 @@ module _ {R U V : Type 0} (remaining : R → Option (List ℕ)) (finish : U → 
     pub spent : length given ≤ most_read (first.left - now.left)
     pub steady : now.failed ≡ first.failed
     pub left : now.left ≤ first.left
-    pub turns : now.turns ≡ first.turns
+    pub budget : now.budget ≡ first.budget
     pub renamed : now.renamed ≡ first.renamed
     pub hashed : List ℕ
     pub holds : Holds256 hasher hashed

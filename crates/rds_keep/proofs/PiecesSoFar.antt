@@ -11,7 +11,7 @@ use Rattle.rds_keep.specs.Parts.{AppendsPart, pieces_text}
 pub record ArePiecesWritten {W : Type 0} (contents : W → Option (List ℕ)) (first now : CountedValue W) (pieces : List (Bor (List ℕ))) (at : ℕ) : Type 0 where
   pub written : Appends (contents first.inner) (contents now.inner) (pieces_text (take at pieces))
   pub steady : now.failed ≡ first.failed
-  pub turns : now.turns ≡ first.turns
+  pub budget : now.budget ≡ first.budget
   pub left : now.left ≡ first.left
   pub renamed : now.renamed ≡ first.renamed
 

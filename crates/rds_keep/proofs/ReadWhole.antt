@@ -18,22 +18,22 @@ use Rattle.rds_keep.proofs.Fronts.{begins_own, magic_is_four}
 
 -- ---- an input that doesn't begin as a snapshot does
 
-refused : (input : List ℕ) (turns : ℕ) (e : Fault) → (e ≡ Bad → IsForeign input) → (e ≡ Cut → IsShort turns input) → (e ≡ Bad) ⊎ ((e ≡ Cut) ⊎ ((e ≡ Memory) ⊎ (e ≡ Device))) → ReadsWhole input (Err e)
-refused input turns e foreign short (inl bad) = inl (rw bad (foreign_is_bad input (foreign bad)))
-refused input turns e foreign short (inr (inl cut)) = inl (rw cut (let is = short cut in short_is_cut input is.0))
-refused input turns e foreign short (inr (inr other)) = inr (elim other [ inl memory ↦ inl (ap Err memory) | inr device ↦ inr (ap Err device) ])
+refused : (input : List ℕ) (budget : ℕ) (e : Fault) → (e ≡ Bad → IsForeign input) → (e ≡ Cut → IsShort budget input) → (e ≡ Bad) ⊎ ((e ≡ Cut) ⊎ ((e ≡ Memory) ⊎ (e ≡ Device))) → ReadsWhole input (Err e)
+refused input budget e foreign short (inl bad) = inl (rw bad (foreign_is_bad input (foreign bad)))
+refused input budget e foreign short (inr (inl cut)) = inl (rw cut (let is = short cut in short_is_cut input is.0))
+refused input budget e foreign short (inr (inr other)) = inr (elim other [ inl memory ↦ inl (ap Err memory) | inr device ↦ inr (ap Err device) ])
 
-pub input_refused : (known : Option (List ℕ)) (turns : ℕ) (e : Fault) → (e ≡ Bad → IfSome known IsForeign) → (e ≡ Cut → IfSome known (IsShort turns))
+pub input_refused : (known : Option (List ℕ)) (budget : ℕ) (e : Fault) → (e ≡ Bad → IfSome known IsForeign) → (e ≡ Cut → IfSome known (IsShort budget))
     → (e ≡ Bad) ⊎ ((e ≡ Cut) ⊎ ((e ≡ Memory) ⊎ (e ≡ Device))) → IfSome known (λ input. ReadsWhole input (Err e))
-input_refused None turns e foreign short why = tt
-input_refused (Some input) turns e foreign short why = refused input turns e foreign short why
+input_refused None budget e foreign short why = tt
+input_refused (Some input) budget e foreign short why = refused input budget e foreign short why
 
-pub input_unread : (known : Option (List ℕ)) (turns : ℕ) (e : Fault) → (e ≡ Bad → IfSome known IsForeign) → (e ≡ Cut → IfSome known (IsShort turns))
-    → (e ≡ Bad) ⊎ ((e ≡ Cut) ⊎ ((e ≡ Memory) ⊎ (e ≡ Device))) → IfSome known (λ input. WantsMoreReads turns input → IsUnread (Err e))
-input_unread None turns e foreign short why = tt
-input_unread (Some input) turns e foreign short (inl bad) = λ more. absurd (more.own (foreign bad))
-input_unread (Some input) turns e foreign short (inr (inl cut)) = λ more. absurd (let is = short cut in let few = is.1 in let all = more.all in omega (arith, few, all))
-input_unread (Some input) turns e foreign short (inr (inr other)) = λ _. elim other [ inl memory ↦ inl (ap Err memory) | inr device ↦ inr (ap Err device) ]
+pub input_unread : (known : Option (List ℕ)) (budget : ℕ) (e : Fault) → (e ≡ Bad → IfSome known IsForeign) → (e ≡ Cut → IfSome known (IsShort budget))
+    → (e ≡ Bad) ⊎ ((e ≡ Cut) ⊎ ((e ≡ Memory) ⊎ (e ≡ Device))) → IfSome known (λ input. WantsMoreReads budget input → IsUnread (Err e))
+input_unread None budget e foreign short why = tt
+input_unread (Some input) budget e foreign short (inl bad) = λ more. absurd (more.own (foreign bad))
+input_unread (Some input) budget e foreign short (inr (inl cut)) = λ more. absurd (let is = short cut in let few = is.1 in let all = more.all in omega (arith, few, all))
+input_unread (Some input) budget e foreign short (inr (inr other)) = λ _. elim other [ inl memory ↦ inl (ap Err memory) | inr device ↦ inr (ap Err device) ]
 
 -- ---- one that does
 
@@ -84,12 +84,12 @@ input_spelled (Some xs) None front s taken read = absurd taken
 input_spelled (Some xs) (Some ys) front s taken read = (s.0, text_is xs ys front s taken read)
 
 -- the reads that are left after the first give neither all of the rest, nor more of it than may still come
-pub input_bound : (first mid : Option (List ℕ)) (front : List ℕ) (turns left room : ℕ) (r : Result Snapshot Fault) → IsMagic front → Consumes first mid front → left ≤ turns → 4 ≤ most_read (turns - left)
+pub input_bound : (first mid : Option (List ℕ)) (front : List ℕ) (budget left room : ℕ) (r : Result Snapshot Fault) → IsMagic front → Consumes first mid front → left ≤ budget → 4 ≤ most_read (budget - left)
     → length front + room ≡ LIMIT → IfSome mid (λ input. most_read left < length input → most_read left ≤ room → (r ≡ Err Memory) ⊎ (r ≡ Err Device))
-    → IfSome first (λ input. WantsMoreReads turns input → IsUnread (replica_in r))
-input_bound None mid front turns left room r own taken fewer some all why = tt
-input_bound (Some xs) None front turns left room r own taken fewer some all why = absurd taken
-input_bound (Some xs) (Some ys) front turns left room r own taken fewer some all why = λ more.
+    → IfSome first (λ input. WantsMoreReads budget input → IsUnread (replica_in r))
+input_bound None mid front budget left room r own taken fewer some all why = tt
+input_bound (Some xs) None front budget left room r own taken fewer some all why = absurd taken
+input_bound (Some xs) (Some ys) front budget left room r own taken fewer some all why = λ more.
     let many = more.all in
     let within = more.within in
     let four = magic_is_four front own in

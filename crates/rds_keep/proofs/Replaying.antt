@@ -154,7 +154,7 @@ pub record IsReadSoFar {R : Type 0} (remaining : R → Option (List ℕ)) (old n
   pub spent : ConsumesAtMost (remaining first.inner) (remaining reader.inner) (most_read (first.left - reader.left))
   pub steady : reader.failed ≡ first.failed
   pub left : reader.left ≤ first.left
-  pub turns : reader.turns ≡ first.turns
+  pub budget : reader.budget ≡ first.budget
   pub renamed : reader.renamed ≡ first.renamed
 
 pub nothing_read : (old : ReplayValue) (known : Option (List ℕ)) (behind : List ℕ) → ReadsRecords old old known known behind behind

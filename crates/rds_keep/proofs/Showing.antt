@@ -7,7 +7,7 @@ use Rattle.rds_keep.specs.Parts.{AppendsPart, BytesGrow}
 pub record IsShownSoFar {W : Type 0} (contents : W → Option (List ℕ)) (first now : CountedValue W) : Type 0 where
   pub written : BytesGrow (contents first.inner) (contents now.inner)
   pub steady : now.failed ≡ first.failed
-  pub turns : now.turns ≡ first.turns
+  pub budget : now.budget ≡ first.budget
   pub left : now.left ≡ first.left
   pub renamed : now.renamed ≡ first.renamed
 

@@ -10,7 +10,7 @@ pub record IsWrittenSoFar {W : Type 0} (contents : W → Option (List ℕ)) (fir
   pub within : at ≤ length bytes
   pub written : Appends (contents first.inner) (contents now.inner) (take at bytes)
   pub steady : now.failed ≡ first.failed
-  pub turns : now.turns ≡ first.turns
+  pub budget : now.budget ≡ first.budget
   pub left : now.left ≡ first.left
   pub renamed : now.renamed ≡ first.renamed
 

@@ -6,15 +6,15 @@ use Rattle.std.specs.Coded.{Coded, code_by, coded×, coded_bool, coded_ℕ}
 pub record CountedValue (T : Type 0) : Type 0 where
   pub inner : T
   pub failed : ℕ
-  pub turns : ℕ
+  pub budget : ℕ
   pub left : ℕ
   pub renamed : Bool
 
 abbrev pub counted_code : {T : Type 0} → Coded T → Coded (CountedValue T)
 counted_code {T} code =
     code_by (T × (ℕ × (ℕ × (ℕ × Bool)))) (coded× code (coded× coded_ℕ (coded× coded_ℕ (coded× coded_ℕ coded_bool))))
-    (λ c. (c.inner, (c.failed, (c.turns, (c.left, c.renamed)))))
-    (λ p. record { inner = p.0; failed = p.1.0; turns = p.1.1.0; left = p.1.1.1.0; renamed = p.1.1.1.1 }) (λ _. refl)
+    (λ c. (c.inner, (c.failed, (c.budget, (c.left, c.renamed)))))
+    (λ p. record { inner = p.0; failed = p.1.0; budget = p.1.1.0; left = p.1.1.1.0; renamed = p.1.1.1.1 }) (λ _. refl)
 
 -- one more, up to the greatest number
 abbrev pub one_more : ℕ → ℕ

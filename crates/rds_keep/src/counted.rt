@@ -13,16 +13,16 @@ use std::io::{Read, Write};
 use std::marker::Model;
 
 /// How many reads a loop may make where nothing else is said.
-const TURNS: u64 = 2_147_483_648;
+const BUDGET: u64 = 2_147_483_648;
 
-/// A reader, a writer or a place. It counts the calls on it that failed, and bounds how many reads a
+/// A reader, a writer or a place. It counts the calls on it that failed, and has a budget of the reads that a
 /// loop over it makes: one more counts as a call that failed. Nothing else makes the count rise. A full
 /// count stays, and is to be taken as risen. It also tells whether a rename through it was made.
 #[derive(Drop)]
 pub struct Counted<T> {
     inner: T,
     failed: u64,
-    turns: u64,
+    budget: u64,
     left: u64,
     renamed: bool,
 }
@@ -37,30 +37,30 @@ impl<T> Model for Counted<T> {
     ghost view = { λ c. record {
       inner = c.inner;
       failed = c.failed;
-      turns = c.turns;
+      budget = c.budget;
       left = c.left;
       renamed = c.renamed;
     } };
 }
 
 impl<T> Counted<T> {
-    /// Counts from 0, with the usual bound of turns: 2,147,483,648.
+    /// Counts from 0, with the usual budget: 2,147,483,648.
     pub fn new(inner: T) -> Counted<T>
         ensures { result
-            ≡ record { inner = inner; failed = 0; turns = 2147483648; left = 2147483648; renamed = false } }
+            ≡ record { inner = inner; failed = 0; budget = 2147483648; left = 2147483648; renamed = false } }
     {
-        Counted::with_turns(inner, TURNS)
+        Counted::with_budget(inner, BUDGET)
     }
 
-    /// Counts from 0, with this bound of turns.
-    pub fn with_turns(inner: T, turns: u64) -> Counted<T>
-        ensures { result ≡ record { inner = inner; failed = 0; turns = turns; left = turns; renamed = false } }
+    /// Counts from 0, with this budget.
+    pub fn with_budget(inner: T, budget: u64) -> Counted<T>
+        ensures { result ≡ record { inner = inner; failed = 0; budget = budget; left = budget; renamed = false } }
     {
         Counted {
             inner,
             failed: 0,
-            turns,
-            left: turns,
+            budget,
+            left: budget,
             renamed: false,
         }
     }
@@ -73,10 +73,10 @@ impl<T> Counted<T> {
     }
 
     /// How many reads a loop may make.
-    pub fn turns(&self) -> u64
-        ensures { result ≡ self.now.turns }
+    pub fn budget(&self) -> u64
+        ensures { result ≡ self.now.budget }
     {
-        self.turns
+        self.budget
     }
 
     /// Whether a rename through it was made. No other call changes that.
@@ -87,10 +87,10 @@ impl<T> Counted<T> {
     }
 
     /// A loop of reads begins: from here on it may make as many as the bound says.
-    pub fn begin_turns(&mut self)
-        ensures { self.new ≡ record self.old { left = self.old.turns } }
+    pub fn renew_budget(&mut self)
+        ensures { self.new ≡ record self.old { left = self.old.budget } }
     {
-        self.left = self.turns;
+        self.left = self.budget;
     }
 
     // Counts a failure, and names its fault.
@@ -116,7 +116,7 @@ impl<R: Read> Counted<R> {
         ensures left { self.new.left ≡ self.old.left - 1 }
         ensures steady { OnOk result (self.new.failed ≡ self.old.failed) }
         ensures counted { OnErr result (self.new.failed ≡ one_more self.old.failed) }
-        ensures turns { self.new.turns ≡ self.old.turns }
+        ensures budget { self.new.budget ≡ self.old.budget }
         ensures renamed { self.new.renamed ≡ self.old.renamed }
     {
         if self.left == 0 {
@@ -141,7 +141,7 @@ impl<W: Write> Counted<W> {
         ensures fault { IfErr result (λ e. e ≡ Device) }
         ensures steady { OnOk result (self.new.failed ≡ self.old.failed) }
         ensures counted { OnErr result (self.new.failed ≡ one_more self.old.failed) }
-        ensures turns { self.new.turns ≡ self.old.turns }
+        ensures budget { self.new.budget ≡ self.old.budget }
         ensures left { self.new.left ≡ self.old.left }
         ensures renamed { self.new.renamed ≡ self.old.renamed }
     {

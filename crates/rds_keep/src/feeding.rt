@@ -36,7 +36,7 @@ fn feed_all<U: Unfinished>(feed: &mut Feed<U>, piece: &[u8]) -> Result<(), Fault
 
 impl<R: Read> Counted<R> {
     /// Reads on: what the reader gives is fed, to its end or until so many bytes have come, and how many came is
-    /// answered. It spends turns of a loop that its caller began.
+    /// answered. It spends the budget of a loop that its caller began.
     ///
     /// A fault of the feed is kept there, and the bytes behind it are counted and not kept; but where memory runs out
     /// nothing more is read.
@@ -55,7 +55,7 @@ impl<R: Read> Counted<R> {
             ⊎ ((e ≡ Device) × HasFailed self.old self.new)) }
         ensures steady { OnOk result (self.new.failed ≡ self.old.failed) }
         ensures left { self.new.left ≤ self.old.left }
-        ensures turns { self.new.turns ≡ self.old.turns }
+        ensures budget { self.new.budget ≡ self.old.budget }
         ensures renamed { self.new.renamed ≡ self.old.renamed }
     {
         let mut chunk = [0u8; CHUNK];
@@ -86,10 +86,10 @@ pub(crate) fn fed_with<U: Unfinished>(feed: Feed<U>, piece: &[u8]) -> Result<Fee
 }
 
 /// Reads all that the reader holds through a feed, behind what the feed was given before: the value whose text these
-/// bytes are. It spends turns of a loop that its caller began, and holds no more of the text than the feed does.
+/// bytes are. It spends the budget of a loop that its caller began, and holds no more of the text than the feed does.
 ///
 /// Refuses as decoding does for all of the bytes: they are read to their end, or to one more than a text may have, also
-/// where the feed refuses them earlier. A read that fails, and more reads than the reader has turns, are `Device`.
+/// where the feed refuses them earlier. A read that fails, and more reads than its budget, are `Device`.
 pub fn read_fed<U: Fed, R: Read>(feed: Feed<U>, reader: &mut Counted<R>) -> Result<U::Whole, Fault>
     ensures whole { (format : Format) (replicas : ℕ) (came : List ℕ)
         → StandsFor U.finish (U.reader format replicas) feed came
@@ -108,7 +108,7 @@ pub fn read_fed<U: Fed, R: Read>(feed: Feed<U>, reader: &mut Counted<R>) -> Resu
         → StandsFor U.finish (U.reader format replicas) feed came
         → result ≡ Err Device → HasFailed reader.old reader.new }
     ensures steady { result ≢ Err Device → reader.new.failed ≡ reader.old.failed }
-    ensures turns { reader.new.turns ≡ reader.old.turns }
+    ensures budget { reader.new.budget ≡ reader.old.budget }
     ensures renamed { reader.new.renamed ≡ reader.old.renamed }
 {
     let mut feed = feed;

@@ -38,7 +38,7 @@ pub fn keep_in<S: DotSet, P: Place>(
     ensures limit { OnOk result (length (snapshot_text replica) ≤ LIMIT) }
     ensures refused { IfErr result (RefusesText (snapshot_text replica) place.old place.new) }
     ensures steady { OnOk result (place.new.failed ≡ place.old.failed) }
-    ensures turns { place.new.turns ≡ place.old.turns }
+    ensures budget { place.new.budget ≡ place.old.budget }
 {
     let bytes = encode_file(alloc, &replica)?;
     place.write_all(bytes.as_slice())?;

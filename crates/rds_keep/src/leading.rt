@@ -76,7 +76,7 @@ pub fn decode_leading<U: Unfinished>(
 
 impl<R: Read> Counted<R> {
     /// Reads the value that the front and all that the reader holds begin with, and no more than a block behind it. It
-    /// spends turns of a loop that its caller began.
+    /// spends the budget of a loop that its caller began.
     ///
     /// Refuses `Cut` where there are fewer bytes than the value has, `TooLong` where more than a text may have don't
     /// make it whole, and `Bad` as soon as no bytes that may follow would help.
@@ -95,7 +95,7 @@ impl<R: Read> Counted<R> {
         ensures counted { result ≡ Err Device → HasFailed self.old self.new }
         ensures steady { result ≢ Err Device → self.new.failed ≡ self.old.failed }
         ensures left { self.new.left ≤ self.old.left }
-        ensures turns { self.new.turns ≡ self.old.turns }
+        ensures budget { self.new.budget ≡ self.old.budget }
         ensures renamed { self.new.renamed ≡ self.old.renamed }
     {
         let mut unfinished = unfinished;

@@ -16,7 +16,7 @@ const CHUNK: usize = 65_536;
 
 impl<R: Read> Counted<R> {
     /// The first bytes of all that the reader holds, at most so many. It reads to the end or until
-    /// it has them, each byte into its place once, within the reader's bound of turns (`Device`
+    /// it has them, each byte into its place once, within the reader's budget (`Device`
     /// where that doesn't do, and where a read fails). It takes no byte more from the reader, also
     /// where it fails.
     pub fn read_front(&mut self, alloc: Global, most: usize) -> Result<Vec<u8>, Fault>
@@ -25,24 +25,24 @@ impl<R: Read> Counted<R> {
         ensures bytes { IfOk result (λ v. Consumes (R.remaining self.old.inner)
             (R.remaining self.new.inner) v.items) }
         ensures within { IfOk result (λ v. length v.items ≤ most) }
-        ensures bound { IfOk result (λ v. length v.items ≤ most_read (self.old.turns - self.new.left)) }
+        ensures bound { IfOk result (λ v. length v.items ≤ most_read (self.old.budget - self.new.left)) }
         ensures end { IfOk result (λ v. length v.items < most → IsAtEnd (R.remaining self.new.inner)) }
         ensures most { ConsumesAtMost (R.remaining self.old.inner) (R.remaining self.new.inner) most }
         ensures fault { IfErr result (λ e. ((e ≡ Memory) × (self.new.failed ≡ self.old.failed))
             ⊎ ((e ≡ Device) × HasFailed self.old self.new)) }
         ensures steady { OnOk result (self.new.failed ≡ self.old.failed) }
-        ensures left { self.new.left ≤ self.old.turns }
-        ensures turns { self.new.turns ≡ self.old.turns }
+        ensures left { self.new.left ≤ self.old.budget }
+        ensures budget { self.new.budget ≡ self.old.budget }
         ensures renamed { self.new.renamed ≡ self.old.renamed }
     {
         let mut front = Vec::new(alloc);
-        self.begin_turns();
+        self.renew_budget();
         self.read_on(&mut front, most)?;
         Ok(front)
     }
 
     /// Reads on: what the reader gives goes behind the bytes of the front, to its end or until the
-    /// front has so many. It spends turns of a loop that its caller began. Where it fails, the front
+    /// front has so many. It spends the budget of a loop that its caller began. Where it fails, the front
     /// may lack bytes that were read.
     pub(crate) fn read_on(&mut self, front: &mut Vec<u8>, most: usize) -> Result<(), Fault>
         requires { length front.old.items ≤ most }
@@ -60,7 +60,7 @@ impl<R: Read> Counted<R> {
             ⊎ ((e ≡ Device) × HasFailed self.old self.new)) }
         ensures steady { OnOk result (self.new.failed ≡ self.old.failed) }
         ensures left { self.new.left ≤ self.old.left }
-        ensures turns { self.new.turns ≡ self.old.turns }
+        ensures budget { self.new.budget ≡ self.old.budget }
         ensures renamed { self.new.renamed ≡ self.old.renamed }
     {
         let mut chunk = [0u8; CHUNK];

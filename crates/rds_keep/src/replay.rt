@@ -85,7 +85,7 @@ pub fn hold_more<R: Read>(reader: &mut Counted<R>, held: &mut Vec<u8>) -> Result
         ⊎ ((e ≡ Device) × HasFailed reader.old reader.new)) }
     ensures steady { OnOk result (reader.new.failed ≡ reader.old.failed) }
     ensures left { reader.new.left ≤ reader.old.left }
-    ensures turns { reader.new.turns ≡ reader.old.turns }
+    ensures budget { reader.new.budget ≡ reader.old.budget }
     ensures renamed { reader.new.renamed ≡ reader.old.renamed }
 {
     let most = held.len().max(HELD);
@@ -164,7 +164,7 @@ impl<S: DotSet> Replay<S> {
     }
 
     /// Takes the records in some bytes and in all that the reader holds, and answers the rest, in which none begins: it
-    /// is all that there is, or longer than a record. It spends turns of a loop that its caller began.
+    /// is all that there is, or longer than a record. It spends the budget of a loop that its caller began.
     pub fn read_records<R: Read>(
         &mut self,
         alloc: Global,
@@ -184,7 +184,7 @@ impl<S: DotSet> Replay<S> {
         ensures counted { result ≡ Err Device → HasFailed reader.old reader.new }
         ensures steady { result ≢ Err Device → reader.new.failed ≡ reader.old.failed }
         ensures left { reader.new.left ≤ reader.old.left }
-        ensures turns { reader.new.turns ≡ reader.old.turns }
+        ensures budget { reader.new.budget ≡ reader.old.budget }
         ensures renamed { reader.new.renamed ≡ reader.old.renamed }
     {
         let mut held = behind;

@@ -54,7 +54,7 @@ pub fn write_snapshot<S: DotSet, W: Write>(
     ensures limit { OnOk result (length (snapshot_text replica) ≤ LIMIT) }
     ensures refused { IfErr result (RefusesText (snapshot_text replica) writer.old writer.new) }
     ensures steady { OnOk result (writer.new.failed ≡ writer.old.failed) }
-    ensures turns { writer.new.turns ≡ writer.old.turns }
+    ensures budget { writer.new.budget ≡ writer.old.budget }
     ensures renamed { writer.new.renamed ≡ writer.old.renamed }
     ensures small { replica.state.lives ≡ map.empty → replica.state.counts ≡ map.empty
         → IfErr result (λ fault. (fault ≡ Memory) ⊎ (fault ≡ Device)) }
@@ -73,17 +73,17 @@ pub(crate) fn read_magic<R: Read>(alloc: Global, reader: &mut Counted<R>) -> Res
     ensures magic { IfOk result (λ front. IsMagic front.items) }
     ensures bytes { IfOk result (λ front. Consumes (R.remaining reader.old.inner)
         (R.remaining reader.new.inner) front.items) }
-    ensures bound { OnOk result (4 ≤ most_read (reader.old.turns - reader.new.left)) }
+    ensures bound { OnOk result (4 ≤ most_read (reader.old.budget - reader.new.left)) }
     ensures bad { IfErr result (λ e. e ≡ Bad → IfSome (R.remaining reader.old.inner) IsForeign) }
     ensures cut { IfErr result (λ e. e ≡ Cut → IfSome (R.remaining reader.old.inner)
-        (IsShort reader.old.turns)) }
+        (IsShort reader.old.budget)) }
     ensures foreign { IfSome (R.remaining reader.old.inner) (λ input. IsForeign input
         → ConsumesAtMost (R.remaining reader.old.inner) (R.remaining reader.new.inner) 4) }
     ensures fault { IfErr result (λ e. (e ≡ Bad) ⊎ ((e ≡ Cut) ⊎ ((e ≡ Memory) ⊎ (e ≡ Device)))) }
     ensures counted { result ≡ Err Device → HasFailed reader.old reader.new }
     ensures steady { result ≢ Err Device → reader.new.failed ≡ reader.old.failed }
-    ensures left { reader.new.left ≤ reader.old.turns }
-    ensures turns { reader.new.turns ≡ reader.old.turns }
+    ensures left { reader.new.left ≤ reader.old.budget }
+    ensures budget { reader.new.budget ≡ reader.old.budget }
     ensures renamed { reader.new.renamed ≡ reader.old.renamed }
 {
     let front = reader.read_front(alloc, MAGIC.len())?;
@@ -95,7 +95,7 @@ pub(crate) fn read_magic<R: Read>(alloc: Global, reader: &mut Counted<R>) -> Res
 ///
 /// Refuses as decoding does for the whole input, of which it holds no more than the replica and a part, and in
 /// format 2 the table of its keys. But an input whose first four bytes are those of no format is `Bad` however long
-/// it is, and no more than these are read of it. A read that fails, and more reads than the reader's bound of turns,
+/// it is, and no more than these are read of it. A read that fails, and more reads than the reader's budget,
 /// are `Device`.
 ///
 /// What was read in format 1 may have too long a text in format 2, which is what is written.
@@ -107,7 +107,7 @@ pub fn read_snapshot<S: DotSet, R: Read>(
         (λ input. (format : Format) × (input ≡ snapshot_text_in format kept))) }
     ensures value { IfOk result (λ kept. IsSnapshot kept) }
     ensures whole { IfSome (R.remaining reader.old.inner) (λ input. ReadsWhole input result) }
-    ensures bound { IfSome (R.remaining reader.old.inner) (λ input. WantsMoreReads reader.old.turns input
+    ensures bound { IfSome (R.remaining reader.old.inner) (λ input. WantsMoreReads reader.old.budget input
         → IsUnread result) }
     ensures foreign { IfSome (R.remaining reader.old.inner) (λ input. IsForeign input
         → ConsumesAtMost (R.remaining reader.old.inner) (R.remaining reader.new.inner) 4) }
@@ -115,7 +115,7 @@ pub fn read_snapshot<S: DotSet, R: Read>(
     ensures fault { IfErr result (λ e. (e ≡ Device) ⊎ IsOtherFault e) }
     ensures counted { result ≡ Err Device → HasFailed reader.old reader.new }
     ensures steady { result ≢ Err Device → reader.new.failed ≡ reader.old.failed }
-    ensures turns { reader.new.turns ≡ reader.old.turns }
+    ensures budget { reader.new.budget ≡ reader.old.budget }
     ensures renamed { reader.new.renamed ≡ reader.old.renamed }
 {
     let front = read_magic(alloc, reader)?;

@@ -121,15 +121,15 @@ fn read_first<S: DotSet, R: Read>(
     ensures end { IfOk result (λ x. length x.1.items ≤ MOST + HEAD + SUM_LENGTH
         → IsAtEnd (R.remaining reader.new.inner)) }
     ensures bound { OnOk result (ConsumesAtMost (R.remaining reader.old.inner) (R.remaining reader.new.inner)
-        (most_read (reader.old.turns - reader.new.left))) }
+        (most_read (reader.old.budget - reader.new.left))) }
     ensures refused { IfErr result (λ e. IfSome (R.remaining reader.old.inner) (λ input. RefusesBytes input e)) }
     ensures foreign { IfSome (R.remaining reader.old.inner) (λ input. IsForeign input
         → ConsumesAtMost (R.remaining reader.old.inner) (R.remaining reader.new.inner) 4) }
     ensures fault { IfErr result (λ e. (e ≡ Device) ⊎ IsOtherFault e) }
     ensures counted { result ≡ Err Device → HasFailed reader.old reader.new }
     ensures steady { result ≢ Err Device → reader.new.failed ≡ reader.old.failed }
-    ensures left { reader.new.left ≤ reader.old.turns }
-    ensures turns { reader.new.turns ≡ reader.old.turns }
+    ensures left { reader.new.left ≤ reader.old.budget }
+    ensures budget { reader.new.budget ≡ reader.old.budget }
     ensures renamed { reader.new.renamed ≡ reader.old.renamed }
 {
     let front = read_magic(alloc, reader)?;
@@ -239,15 +239,15 @@ fn read_front<S: DotSet, R: Read>(
         (λ input. IsAllOf x.0.format x.0.is_summed x.0.replica (x.1.items ++ input))) }
     ensures end { IfOk result (λ x. length x.1.items ≤ MOST + HEAD → IsAtEnd (R.remaining reader.new.inner)) }
     ensures bound { OnOk result (ConsumesAtMost (R.remaining reader.old.inner) (R.remaining reader.new.inner)
-        (most_read (reader.old.turns - reader.new.left))) }
+        (most_read (reader.old.budget - reader.new.left))) }
     ensures refused { IfErr result (λ e. IfSome (R.remaining reader.old.inner) (λ input. RefusesBytes input e)) }
     ensures foreign { IfSome (R.remaining reader.old.inner) (λ input. IsForeign input
         → ConsumesAtMost (R.remaining reader.old.inner) (R.remaining reader.new.inner) 4) }
     ensures fault { IfErr result (λ e. (e ≡ Device) ⊎ IsOtherFault e) }
     ensures counted { result ≡ Err Device → HasFailed reader.old reader.new }
     ensures steady { result ≢ Err Device → reader.new.failed ≡ reader.old.failed }
-    ensures left { reader.new.left ≤ reader.old.turns }
-    ensures turns { reader.new.turns ≡ reader.old.turns }
+    ensures left { reader.new.left ≤ reader.old.budget }
+    ensures budget { reader.new.budget ≡ reader.old.budget }
     ensures renamed { reader.new.renamed ≡ reader.old.renamed }
 {
     let (first, behind) = read_first(alloc, reader)?;
@@ -327,7 +327,7 @@ fn read_behind<S: DotSet, R: Read>(
     ensures steady { MatchResult result (λ _. reader.new.failed ≡ reader.old.failed)
         (λ r. r.fault ≢ Device → reader.new.failed ≡ reader.old.failed) }
     ensures left { reader.new.left ≤ reader.old.left }
-    ensures turns { reader.new.turns ≡ reader.old.turns }
+    ensures budget { reader.new.budget ≡ reader.old.budget }
     ensures renamed { reader.new.renamed ≡ reader.old.renamed }
 {
     let Front {
@@ -347,13 +347,14 @@ fn read_behind<S: DotSet, R: Read>(
     }
 }
 
-/// Reads all that the reader holds: a snapshot in either format, the record of its checksum where it has one, the records
-/// of changes behind them, and a torn end. Of all that it holds no more than the replica, a part of the snapshot or some
-/// records, and in format 2 the table of its keys.
+/// Reads all that the reader holds: a snapshot in either format, the record of its checksum where it has one, the
+/// records of changes behind them, and a torn end. Of all that it holds no more than the replica, a part of the
+/// snapshot or some records, and in format 2 the table of its keys.
 ///
-/// Refuses `Cut` where the bytes end inside of the snapshot, `TooLong` where that is above the limit, and `Bad` where they
-/// are no file, as soon as that is known: of those whose first four bytes are those of no format no more than these
-/// are read. A snapshot whose bytes have another checksum than the one that stands behind it is no file. A read that fails, and more reads than the reader's bound of turns, are `Device`.
+/// Refuses `Cut` where the bytes end inside of the snapshot, `TooLong` where that is above the limit, and `Bad` where
+/// they are no file, as soon as that is known: of those whose first four bytes are those of no format no more than
+/// these are read. A snapshot whose bytes have another checksum than the one that stands behind it is no file. A read
+/// that fails, and more reads than the reader's budget, are `Device`.
 pub fn read_stored<S: DotSet, R: Read>(
     alloc: Global,
     reader: &mut Counted<R>,
@@ -362,7 +363,7 @@ pub fn read_stored<S: DotSet, R: Read>(
     ensures value { IfOk result (λ s. IsSnapshot s.kept) }
     ensures end { OnOk result (IsAtEnd (R.remaining reader.new.inner)) }
     ensures bound { OnOk result (ConsumesAtMost (R.remaining reader.old.inner) (R.remaining reader.new.inner)
-        (most_read reader.old.turns)) }
+        (most_read reader.old.budget)) }
     ensures refused { IfErr result (λ r. IfSome (R.remaining reader.old.inner) (λ input. RefusesBytes input r.fault)) }
     ensures at { IfErr result (λ r. IfSome (R.remaining reader.old.inner) (λ input. AreWhole input r.at)) }
     ensures foreign { IfSome (R.remaining reader.old.inner) (λ input. IsForeign input
@@ -371,7 +372,7 @@ pub fn read_stored<S: DotSet, R: Read>(
     ensures counted { IfErr result (λ r. r.fault ≡ Device → HasFailed reader.old reader.new) }
     ensures steady { MatchResult result (λ _. reader.new.failed ≡ reader.old.failed)
         (λ r. r.fault ≢ Device → reader.new.failed ≡ reader.old.failed) }
-    ensures turns { reader.new.turns ≡ reader.old.turns }
+    ensures budget { reader.new.budget ≡ reader.old.budget }
     ensures renamed { reader.new.renamed ≡ reader.old.renamed }
 {
     match read_front(alloc, reader) {

@@ -21,7 +21,7 @@ impl<W: Write> Counted<W> {
         ensures fault { IfErr result (λ e. e ≡ Device) }
         ensures steady { OnOk result (self.new.failed ≡ self.old.failed) }
         ensures counted { OnErr result (self.new.failed ≡ one_more self.old.failed) }
-        ensures turns { self.new.turns ≡ self.old.turns }
+        ensures budget { self.new.budget ≡ self.old.budget }
         ensures left { self.new.left ≡ self.old.left }
         ensures renamed { self.new.renamed ≡ self.old.renamed }
     {
@@ -41,7 +41,7 @@ impl<W: Write> Counted<W> {
         ensures fault { IfErr result (λ e. e ≡ Device) }
         ensures steady { OnOk result (self.new.failed ≡ self.old.failed) }
         ensures counted { OnErr result (self.new.failed ≡ one_more self.old.failed) }
-        ensures turns { self.new.turns ≡ self.old.turns }
+        ensures budget { self.new.budget ≡ self.old.budget }
         ensures left { self.new.left ≡ self.old.left }
         ensures renamed { self.new.renamed ≡ self.old.renamed }
     {

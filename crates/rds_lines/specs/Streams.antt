@@ -15,7 +15,7 @@ abbrev pub stream_of : {T : Type 0} → (T → Option (List ℕ)) → CountedVal
 stream_of bytes old new = record {
   before = bytes old.inner;
   after = bytes new.inner;
-  reads = old.turns - new.left;
+  reads = old.budget - new.left;
   MayHaveFailed = HasFailed old new;
   CountRose = new.failed ≢ old.failed;
 }

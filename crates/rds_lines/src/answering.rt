@@ -44,7 +44,7 @@ pub fn answer_lines<A: Answers, R: Read, W: Write>(
     ensures broken { (writer.new.failed ≡ writer.old.failed) ⊎ (result ≡ 1) }
 {
     let mut ahead = Ahead::new();
-    reader.begin_turns();
+    reader.renew_budget();
     let mut refused = false;
     'lines: loop {
         let line = match ahead.next_line(alloc, reader) {

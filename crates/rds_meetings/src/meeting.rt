@@ -168,13 +168,13 @@ where
     (settlement.settled, ended)
 }
 
-// Reads to the end, within the reader's bound of turns: no more than these give.
+// Reads to the end, within the reader's budget: no more than these give.
 fn drop_rest<R: Read>(reader: &mut Counted<R>)
     ensures bound { ConsumesAtMost (R.remaining reader.old.inner) (R.remaining reader.new.inner)
-        (most_heard (reader.old.turns - reader.new.left)) }
+        (most_heard (reader.old.budget - reader.new.left)) }
 {
     let mut dropped = [0u8; PIECE];
-    reader.begin_turns();
+    reader.renew_budget();
     'turns: loop {
         match reader.read(&mut dropped) {
             Ok(0) | Err(_) => return,

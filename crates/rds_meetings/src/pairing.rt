@@ -87,7 +87,7 @@ where
 {
     let (left, right) = meet(
         rt.alloc(),
-        writer.turns(),
+        writer.budget(),
         client.kept(),
         server.kept(),
         link,

@@ -94,7 +94,7 @@ fn code_of(status: u8) -> ExitCode
 
 // The standard input or output: no call on it failed yet, and a loop makes at most so many reads.
 fn counted<T>(inner: T) -> Counted<T>
-    ensures { result ≡ record { inner = inner; failed = 0; turns = 2147483648; left = 2147483648; renamed = false } }
+    ensures { result ≡ record { inner = inner; failed = 0; budget = 2147483648; left = 2147483648; renamed = false } }
 {
     Counted::new(inner)
 }

@@ -6,7 +6,7 @@ use rds_rows::words::{cut, first, number};
 use std::alloc::Global;
 use std::io::{self, Write};
 
-/// `STEP TURNS END ..`: a reader of the bytes that gives at most so many a call, has such a bound of turns, and `fails`
+/// `STEP TURNS END ..`: a reader of the bytes that gives at most so many a call, has such a budget, and `fails`
 /// or `ends` behind them; and what else the row says.
 pub fn reader_of<'a>(row: &'a str, bytes: &'a [u8]) -> Result<(Counted<Drip<'a>>, &'a str), Fault> {
     let (step, row) = cut(row)?;
@@ -14,7 +14,7 @@ pub fn reader_of<'a>(row: &'a str, bytes: &'a [u8]) -> Result<(Counted<Drip<'a>>
     let (end, row) = first(row);
     let manner = manner_of(number(step)?, end, bytes.len() as u64)?;
     let drip = Drip::new(bytes, manner);
-    Ok((Counted::with_turns(drip, number(turns)?), row))
+    Ok((Counted::with_budget(drip, number(turns)?), row))
 }
 
 // Of the calls that give so many bytes each, the one behind a number of bytes fails, or none does.
@@ -65,7 +65,7 @@ impl Write for Narrow {
     }
 }
 
-/// `ROOM TURNS ..`: how many bytes a writer takes, its bound of turns, and what else the row says.
+/// `ROOM TURNS ..`: how many bytes a writer takes, its budget, and what else the row says.
 pub fn room_of(row: &str) -> Result<(usize, u64, &str), Fault> {
     let (room, row) = cut(row)?;
     let (turns, row) = cut(row)?;

@@ -25,7 +25,7 @@ impl Answers for Lengths {
 }
 
 /// `lengths STEP TURNS END`: what the lines of the input are answered, from a reader that gives at most so many bytes a
-/// call, has such a bound of turns, and `fails` or `ends` behind the bytes.
+/// call, has such a budget, and `fails` or `ends` behind the bytes.
 pub fn answer_lengths(alloc: Global, rest: &str, input: &[u8]) -> Result<String, Fault> {
     let (mut reader, _) = reader_of(rest, input)?;
     let mut written = Vec::new(alloc);

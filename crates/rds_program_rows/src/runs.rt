@@ -47,8 +47,8 @@ pub fn run_long(rt: &HostRuntime, rest: &str, input: &[u8]) -> Result<String, Fa
     last_told(rt.alloc(), &written, number(count)? as usize, status)
 }
 
-/// `into FILE WORDS`: runs the program on these words behind its name, with spaces between them, and puts what it writes
-/// into a file. Answers the status alone.
+/// `into FILE WORDS`: runs the program on these words behind its name, with spaces between them, and puts what it
+/// writes into a file. Answers the status alone.
 pub fn run_into(rt: &HostRuntime, rest: &str, input: &[u8]) -> Result<String, Fault> {
     let (file, words) = cut(rest)?;
     let words = named(rt.alloc(), words)?;
@@ -112,19 +112,19 @@ pub fn run_reading(rt: &HostRuntime, rest: &str, input: &[u8]) -> Result<String,
         &mut reader,
         &mut Counted::new(&mut written),
     );
-    let (failed, turns) = (reader.failed(), reader.turns());
+    let (failed, turns) = (reader.failed(), reader.budget());
     counted_told(rt.alloc(), &written, status, failed, turns)
 }
 
-/// `writes ROOM TURNS WORDS`: the same with a writer that takes so many bytes in all, and has such a bound of turns.
+/// `writes ROOM TURNS WORDS`: the same with a writer that takes so many bytes in all, and has such a budget.
 /// Answers also what was counted.
 pub fn run_writing(rt: &HostRuntime, rest: &str, input: &[u8]) -> Result<String, Fault> {
     let (room, turns, words) = room_of(rest)?;
     let words = named(rt.alloc(), words)?;
     let mut narrow = Narrow::new(rt.alloc(), room);
-    let mut writer = Counted::with_turns(&mut narrow, turns);
+    let mut writer = Counted::with_budget(&mut narrow, turns);
     let status = run(rt, &words, &ToldSite, &mut Counted::new(input), &mut writer);
-    let (failed, turns) = (writer.failed(), writer.turns());
+    let (failed, turns) = (writer.failed(), writer.budget());
     counted_told(rt.alloc(), narrow.taken(), status, failed, turns)
 }
 
@@ -140,8 +140,8 @@ fn counted_told(
     output_told(alloc, written, end.as_str())
 }
 
-/// `turns`: the usual bound of turns.
+/// `turns`: the usual budget of reads.
 pub fn usual_turns(alloc: Global) -> Result<String, Fault> {
-    let turns = Counted::new(0u8).turns();
+    let turns = Counted::new(0u8).budget();
     Ok(format!(in alloc; "{turns}")?)
 }

@@ -218,7 +218,7 @@ fn run_on_wire<'a>(
 pub fn answer_wire(rt: &HostRuntime, fails: &str) -> Result<String, Fault> {
     let wire = Wire::new(rt.alloc(), fails);
     let mut output = Output::new(&wire.calls);
-    let mut writer = Counted::with_turns(&mut output, TURNS);
+    let mut writer = Counted::with_budget(&mut output, TURNS);
     let status = pair_files(&Wired { rt, wire: &wire }, "a", "b", &mut writer);
     run_told(&wire.calls, &output.written, status)
 }

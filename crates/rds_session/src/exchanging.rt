@@ -175,11 +175,11 @@ fn talk<S: DotSet, R: Read, W: Write>(
     ensures steady_reader { OnOk result (reader.new.failed ≡ reader.old.failed) }
     ensures steady_writer { OnOk result (writer.new.failed ≡ writer.old.failed) }
     ensures bound { ConsumesAtMost (R.remaining reader.old.inner) (R.remaining reader.new.inner)
-        (most_heard (reader.old.turns - reader.new.left)) }
+        (most_heard (reader.old.budget - reader.new.left)) }
 {
     let mut ended = say(alloc, session, Input::Bytes(&[]), writer)?;
     let mut piece = [0u8; PIECE];
-    reader.begin_turns();
+    reader.renew_budget();
     'turns: loop {
         if ended.is_over() {
             return Ok(ended);
@@ -190,7 +190,7 @@ fn talk<S: DotSet, R: Read, W: Write>(
 
 /// One session to its end, over all that the reader gives: a step with no bytes, then by turns a read, a step with
 /// what was read, and a write of what the step sends. The reader's end is the stream's. Where a call on the reader or
-/// the writer fails, or the reader's bound of turns is reached, the session has failed with `Device`; what it received
+/// the writer fails, or the reader's budget is reached, the session has failed with `Device`; what it received
 /// before stays, and all that it sends for what it heard has been written where no write failed.
 pub fn exchange<S: DotSet, R: Read, W: Write>(
     alloc: Global,
@@ -210,7 +210,7 @@ pub fn exchange<S: DotSet, R: Read, W: Write>(
     ensures told { ((reader.new.failed ≡ reader.old.failed) × (writer.new.failed ≡ writer.old.failed))
         ⊎ (result.ended ≡ Failed Device) }
     ensures bound { ConsumesAtMost (R.remaining reader.old.inner) (R.remaining reader.new.inner)
-        (most_heard (reader.old.turns - reader.new.left)) }
+        (most_heard (reader.old.budget - reader.new.left)) }
     ensures device { result.ended ≡ Failed Device → HasFailed reader.old reader.new ⊎ HasFailed writer.old writer.new }
     ensures exchange { (HasFailed reader.old reader.new → ⊥) → (HasFailed writer.old writer.new → ⊥)
         → IfSome (R.remaining reader.old.inner) (λ input. Exchanges side kept.now input

@@ -15,8 +15,8 @@ pub fn answer<S: DotSet>(alloc: Global, held: &[u8], rest: &str) -> Result<Strin
     let count = number(count)?;
     match name {
         "whole" => read_whole::<S>(alloc, Counted::new(drip(held, count))),
-        "turns" => read_whole::<S>(alloc, Counted::with_turns(drip(held, 0), count)),
-        "front" => read_front(alloc, Counted::with_turns(drip(held, 0), count)),
+        "turns" => read_whole::<S>(alloc, Counted::with_budget(drip(held, 0), count)),
+        "front" => read_front(alloc, Counted::with_budget(drip(held, 0), count)),
         _ => Err(Fault::Usage),
     }
 }
@@ -28,7 +28,7 @@ fn drip(held: &[u8], fails_at: u64) -> Drip<'_> {
 /// What was read or why not, and what the reader counted.
 fn read_whole<S: DotSet>(alloc: Global, mut reader: Counted<Drip<'_>>) -> Result<String, Fault> {
     let read = answer_text(alloc, snapshot_in::<S>(alloc, &mut reader))?;
-    let (failed, turns) = (reader.failed(), reader.turns());
+    let (failed, turns) = (reader.failed(), reader.budget());
     Ok(format!(in alloc; "{read}; {failed} failed, {turns} turns")?)
 }
 

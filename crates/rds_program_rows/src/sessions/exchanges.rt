@@ -37,7 +37,7 @@ pub fn exchange_over<S: DotSet>(
     line: Line,
 ) -> Result<String, Fault> {
     let mut sent = Vec::new(alloc);
-    let mut reader = Counted::with_turns(Drip::new(heard, line.reads), line.turns);
+    let mut reader = Counted::with_budget(Drip::new(heard, line.reads), line.turns);
     let mut writer = Counted::new(Shelf::new(&mut sent, line.writes));
     let exchanged = exchange(alloc, end.side, &end.kept, &mut reader, &mut writer);
     let failed = (reader.failed(), writer.failed());

@@ -15,7 +15,7 @@ pub returns-in_err-_format-clause-cut : goal.returns-in_err-_format-clause-cut
 returns-in_err-_format-clause-cut g c =
     let p = err_from_is_err_and c.from_residual-in_err-_format.result c.from_residual-in_err-_format.ensures.1 in
     let read = rw c.as_slice.ensures.value at c.in_err-_format.ensures in
-    rw (p.1, p.2) (is_short (g.R.Read.remaining c.args.reader.now.inner) c.in_ok-front.front.items _ c.args.reader.now.turns c.read_front.new.self.left c.in_ok-front.ensures.front c.in_ok-front.ensures.bound read)
+    rw (p.1, p.2) (is_short (g.R.Read.remaining c.args.reader.now.inner) c.in_ok-front.front.items _ c.args.reader.now.budget c.read_front.new.self.left c.in_ok-front.ensures.front c.in_ok-front.ensures.bound read)
 
 pub returns-in_err-_format-clause-fault : goal.returns-in_err-_format-clause-fault
 returns-in_err-_format-clause-fault g c =

@@ -13,7 +13,7 @@ use Rattle.rds_keep.proofs.snapshots.read_snapshot.Goals as goal
 pub returns-in_err-front-clause-whole : goal.returns-in_err-front-clause-whole
 returns-in_err-front-clause-whole g c =
     let p = err_from_is_err_and c.from_residual.result c.from_residual.ensures.1 in
-    rw (p.1, p.2) (input_refused (g.R.Read.remaining c.args.reader.now.inner) c.args.reader.now.turns _ c.in_err-front.ensures.bad c.in_err-front.ensures.cut c.in_err-front.ensures.fault)
+    rw (p.1, p.2) (input_refused (g.R.Read.remaining c.args.reader.now.inner) c.args.reader.now.budget _ c.in_err-front.ensures.bad c.in_err-front.ensures.cut c.in_err-front.ensures.fault)
 
 -- ---- the first bytes are refused
 
@@ -28,7 +28,7 @@ returns-in_err-feed-clause-bound g c =
     let p = err_from_is_err_and c.from_residual-in_err-feed.result c.from_residual-in_err-feed.ensures.1 in
     let memory = magic_refused _ c.snapshot.result c.as_slice.result.now c.in_ok-front.front.items c.in_err-feed.field-0.0 c.as_slice.ensures.value c.in_ok-front.ensures.magic c.snapshot.ensures c.in_err-feed.ensures.refuses in
     rw (p.1, p.2, memory)
-    (each_known {P = λ input. WantsMoreReads c.args.reader.now.turns input → IsUnread (Err Memory)} (g.R.Read.remaining c.args.reader.now.inner) (λ input more. inl refl))
+    (each_known {P = λ input. WantsMoreReads c.args.reader.now.budget input → IsUnread (Err Memory)} (g.R.Read.remaining c.args.reader.now.inner) (λ input more. inl refl))
 
 pub returns-in_err-feed-clause-fault : goal.returns-in_err-feed-clause-fault
 returns-in_err-feed-clause-fault g c =
@@ -54,7 +54,7 @@ pub returns-in_err-_format-clause-bound : goal.returns-in_err-_format-clause-bou
 returns-in_err-_format-clause-bound g c =
     let p = err_from_is_err_and c.from_residual-in_err-_format.result c.from_residual-in_err-_format.ensures.1 in
     let stands = rw c.as_slice.ensures.value at (c.in_ok-feed.ensures.adds snapshot_in_at [] c.snapshot.ensures) in
-    rw (p.1, p.2) (input_bound (g.R.Read.remaining c.args.reader.now.inner) (g.R.Read.remaining c.read_magic.new.reader.inner) c.in_ok-front.front.items c.args.reader.now.turns c.read_magic.new.reader.left c.in_ok-feed.feed.left
+    rw (p.1, p.2) (input_bound (g.R.Read.remaining c.args.reader.now.inner) (g.R.Read.remaining c.read_magic.new.reader.inner) c.in_ok-front.front.items c.args.reader.now.budget c.read_magic.new.reader.left c.in_ok-feed.feed.left
     (Err c.in_err-_format.field-0.0) c.in_ok-front.ensures.magic c.in_ok-front.ensures.bytes c.in_ok-front.ensures.left c.in_ok-front.ensures.bound stands.room c.in_err-_format.ensures.bound)
 
 pub returns-in_err-_format-clause-fault : goal.returns-in_err-_format-clause-fault
@@ -97,7 +97,7 @@ returns-clause-whole g c =
 pub returns-clause-bound : goal.returns-clause-bound
 returns-clause-bound g c =
     let stands = rw c.as_slice.ensures.value at (c.in_ok-feed.ensures.adds snapshot_in_at [] c.snapshot.ensures) in
-    rw c.new.ensures (input_bound (g.R.Read.remaining c.args.reader.now.inner) (g.R.Read.remaining c.read_magic.new.reader.inner) c.in_ok-front.front.items c.args.reader.now.turns c.read_magic.new.reader.left c.in_ok-feed.feed.left
+    rw c.new.ensures (input_bound (g.R.Read.remaining c.args.reader.now.inner) (g.R.Read.remaining c.read_magic.new.reader.inner) c.in_ok-front.front.items c.args.reader.now.budget c.read_magic.new.reader.left c.in_ok-feed.feed.left
     (Ok (c.in_ok-_format._format, c.in_ok-_format.replica)) c.in_ok-front.ensures.magic c.in_ok-front.ensures.bytes c.in_ok-front.ensures.left c.in_ok-front.ensures.bound stands.room c.in_ok-_format.ensures.bound)
 
 pub returns-clause-foreign : goal.returns-clause-foreign

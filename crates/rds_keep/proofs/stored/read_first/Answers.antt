@@ -11,7 +11,7 @@ use Rattle.rds_keep.proofs.stored.read_first.Goals as goal
 pub returns-in_err-front-clause-refused : goal.returns-in_err-front-clause-refused
 returns-in_err-front-clause-refused g c =
     let p = err_from_is_err_and c.from_residual.result c.from_residual.ensures.1 in
-    rw (p.1, p.2) (magic_refuses (g.R.Read.remaining c.args.reader.now.inner) c.args.reader.now.turns _ c.in_err-front.ensures.bad c.in_err-front.ensures.cut c.in_err-front.ensures.fault)
+    rw (p.1, p.2) (magic_refuses (g.R.Read.remaining c.args.reader.now.inner) c.args.reader.now.budget _ c.in_err-front.ensures.bad c.in_err-front.ensures.cut c.in_err-front.ensures.fault)
 
 pub returns-in_err-leading-clause-refused : goal.returns-in_err-leading-clause-refused
 returns-in_err-leading-clause-refused g c =
@@ -88,7 +88,7 @@ returns-clause-bound g c =
     let leading = c.in_ok-leading.leading in
     first_bound _ c.unfinished_snapshot.ensures c.in_ok-front.front.items (g.R.Read.remaining c.args.reader.now.inner) (g.R.Read.remaining c.read_magic.new.reader.inner) (g.R.Read.remaining c.read_leading.new.self.inner) (g.R.Read.remaining c.hold_more.new.reader.inner)
     leading.value leading.count leading.behind.items leading.hasher leading.last.items c.hold_more.new.held.items c.in_ok-front.ensures.bytes c.in_ok-leading.ensures.leads c.in_ok-hold_more.ensures.more
-    c.args.reader.now.turns c.read_magic.new.reader.left c.read_leading.new.self.left c.hold_more.new.reader.left c.in_ok-front.ensures.magic c.in_ok-front.ensures.bound c.in_ok-leading.ensures.bound c.in_ok-hold_more.ensures.bound
+    c.args.reader.now.budget c.read_magic.new.reader.left c.read_leading.new.self.left c.hold_more.new.reader.left c.in_ok-front.ensures.magic c.in_ok-front.ensures.bound c.in_ok-leading.ensures.bound c.in_ok-hold_more.ensures.bound
     c.in_ok-front.ensures.left c.in_ok-leading.ensures.left c.in_ok-hold_more.ensures.left
 
 pub returns-clause-foreign : goal.returns-clause-foreign

@@ -8,7 +8,7 @@ use Rattle.rds_lines.proofs.Told.{failed_since, never_read, never_written, told_
 use Rattle.rds_lines.proofs.answering.answer_lines.Goals as goal
 
 pub lines-init : goal.lines-init
-lines-init g c = rw c.begin_turns.ensures (record {
+lines-init g c = rw c.renew_budget.ensures (record {
   standing = at_first g.A.Answers.may_answer (g.R.Read.remaining c.args.reader.now.inner) (g.W.Write.contents c.args.writer.now.inner) c.args.answers.now c.new-ahead.result c.new-ahead.ensures;
   bound = unread (g.R.Read.remaining c.args.reader.now.inner) _;
   fewer = omega arith;

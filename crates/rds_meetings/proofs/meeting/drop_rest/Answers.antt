@@ -4,7 +4,7 @@ use Rattle.rds_session.proofs.Spent.{read_more, read_once, unread}
 use Rattle.rds_meetings.proofs.meeting.drop_rest.Goals as goal
 
 pub turns-init : goal.turns-init
-turns-init g c = rw c.begin_turns.ensures (unread (g.R.Read.remaining c.args.reader.now.inner) _, omega arith)
+turns-init g c = rw c.renew_budget.ensures (unread (g.R.Read.remaining c.args.reader.now.inner) _, omega arith)
 
 pub turns-preserved : goal.turns-preserved
 turns-preserved g c =

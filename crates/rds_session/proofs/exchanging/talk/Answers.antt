@@ -5,7 +5,7 @@ use Rattle.rds_session.proofs.Spoken.{failed_since, first_part, first_spoken, sp
 use Rattle.rds_session.proofs.exchanging.talk.Goals as goal
 
 pub turns-init : goal.turns-init
-turns-init g c = rw c.begin_turns.ensures (
+turns-init g c = rw c.renew_budget.ensures (
   c.in_ok-ended.ensures.known,
   c.in_ok-ended.ensures.ended,
   c.say.ensures.kept,

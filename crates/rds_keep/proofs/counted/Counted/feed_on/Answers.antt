@@ -11,7 +11,7 @@ turns-init g c = record {
   spent = omega arith;
   steady = refl;
   left = omega arith;
-  turns = refl;
+  budget = refl;
   renamed = refl;
 }
 
@@ -22,7 +22,7 @@ turns-preserved g c = record {
   spent = grind (arith, common_steps);
   steady = search rules;
   left = grind (arith, common_steps);
-  turns = search rules;
+  budget = search rules;
   renamed = search rules;
 }
 

@@ -4,4 +4,4 @@ use Rattle.rds_keep.proofs.counted.Counted.read_front.Goals as goal
 pub returns-clause-front : goal.returns-clause-front
 returns-clause-front g c =
     let h = c.new-front.ensures in
-    front_taken _ _ c.read_on.new.front.items c.args.most (rw (h.items, c.begin_turns.ensures) at c.in_ok-read_on.ensures.bytes) c.in_ok-read_on.ensures.within c.in_ok-read_on.ensures.end
+    front_taken _ _ c.read_on.new.front.items c.args.most (rw (h.items, c.renew_budget.ensures) at c.in_ok-read_on.ensures.bytes) c.in_ok-read_on.ensures.within c.in_ok-read_on.ensures.end

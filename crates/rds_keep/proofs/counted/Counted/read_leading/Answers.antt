@@ -17,7 +17,7 @@ reading-init g c = record {
   spent = omega arith;
   steady = refl;
   left = omega arith;
-  turns = refl;
+  budget = refl;
   renamed = refl;
   hashed = [];
   holds = c.new-hasher.ensures;
@@ -43,7 +43,7 @@ reading-preserved g c =
       spent = grind (arith, common_steps);
       steady = search rules;
       left = grind (arith, common_steps);
-      turns = search rules;
+      budget = search rules;
       renamed = search rules;
       hashed = led.hashed ++ drop c.reading.last c.reading.held.items;
       holds = (let held = c.update.ensures led.hashed led.holds in grind (arith, common_steps));

@@ -14,7 +14,7 @@ turns-preserved g c =
       spent = grind (arith, common_steps);
       steady = search rules;
       left = grind (arith, common_steps);
-      turns = search rules;
+      budget = search rules;
       renamed = search rules;
     }
 

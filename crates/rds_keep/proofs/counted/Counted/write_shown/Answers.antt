@@ -12,7 +12,7 @@ showing-preserved g c = record {
   written = grown_more (g.W.Write.contents c.args.self.now.inner) (g.W.Write.contents c.showing.self.inner) (g.W.Write.contents c.write_all.new.self.inner)
       c.showing.invariant.written (c.bytes-bytes.result.now, c.in_ok-write_all.ensures.bytes);
   steady = c.in_ok-write_all.ensures.steady ∙ c.showing.invariant.steady;
-  turns = c.in_ok-write_all.ensures.turns ∙ c.showing.invariant.turns;
+  budget = c.in_ok-write_all.ensures.budget ∙ c.showing.invariant.budget;
   left = c.in_ok-write_all.ensures.left ∙ c.showing.invariant.left;
   renamed = c.in_ok-write_all.ensures.renamed ∙ c.showing.invariant.renamed;
 }

@@ -36,7 +36,7 @@ reading-preserved g c =
       spent = spent_within _ _ _ c.hold_more.new.held.items rest _ _ _ c.reading.invariant.spent more c.in_ok-hold_more.ensures.bound (grind (arith, common_steps));
       steady = search rules;
       left = grind (arith, common_steps);
-      turns = search rules;
+      budget = search rules;
       renamed = search rules;
     }
 
