@@ -1,6 +1,6 @@
 //! Calls of a node: a request and its response, over a connection of their own that is waited for.
 use crate::destinations::{Destination, find_node};
-use crate::requests::{DONE, NOT_MODIFIED, Request, Response, SWITCHED, Talk};
+use crate::requests::{DONE, NOT_MODIFIED, Request, Resource, Response, Rest, SWITCHED, Talk};
 use crate::troubles::{Trouble, tell};
 use bytes::{Buf, BytesMut};
 use rds_fields::Token;
@@ -151,16 +151,34 @@ impl<'a> Caller<'a> {
         Ok((stream, talk.take_input()))
     }
 
-    // Makes a request, and answers the response. A node that takes no more of the request may still answer it.
+    /// Asks for a file, or for the rest of it, by a talk in which nothing was said yet. Answers the response, or leaves
+    /// what came of it in the talk.
+    pub(crate) fn ask_file<H: Disk + Net>(
+        &mut self,
+        rt: &H,
+        resource: Resource,
+        rest: Option<Rest<'_>>,
+        talk: &mut Talk,
+    ) -> Result<Response, Trouble> {
+        talk.request_file(&self.destination, resource, rest)?;
+        self.exchange(rt, talk)
+    }
+
+    // Makes a request, and answers the response.
     fn call<H: Disk + Net>(&mut self, rt: &H, request: &Request<'_>) -> Result<Response, Trouble> {
         let mut talk = Talk::new(rt.alloc());
         talk.request(&self.destination, request)?;
+        self.exchange(rt, &mut talk)
+    }
+
+    // Sends what a talk has to send, and answers the response. A node that takes no more of a request may still answer it.
+    fn exchange<H: Disk + Net>(&mut self, rt: &H, talk: &mut Talk) -> Result<Response, Trouble> {
         let mut stream = self.connect(rt)?;
-        match self.send(rt, &mut stream, &mut talk) {
-            Ok(()) => self.hear(rt, &mut stream, &mut talk),
+        match self.send(rt, &mut stream, talk) {
+            Ok(()) => self.hear(rt, &mut stream, talk),
             Err(Trouble::System(error)) => {
                 talk.clear_output();
-                match self.hear(rt, &mut stream, &mut talk) {
+                match self.hear(rt, &mut stream, talk) {
                     Ok(response) => Ok(response),
                     Err(_) => Err(Trouble::System(error)),
                 }

@@ -9,6 +9,7 @@ mod calling;
 mod changes;
 mod destinations;
 mod feed;
+mod fetching;
 mod requests;
 mod secrets;
 mod troubles;
@@ -17,6 +18,7 @@ mod watching;
 
 pub use asking::{AskWords, ask_node};
 pub use destinations::{Destination, MOST_PEERS, find_peers};
+pub use fetching::fetch_node;
 pub use requests::{DONE, Head, NOT_MODIFIED, Request, Resource, Response, Talk};
 pub use secrets::read_secret;
 pub use troubles::{End, FORKED, Standing, Trouble};

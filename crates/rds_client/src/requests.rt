@@ -19,6 +19,9 @@ pub const SWITCHED: u16 = 101;
 /// The status of a request that was done.
 pub const DONE: u16 = 200;
 
+/// The status of the rest of a file.
+pub(crate) const PARTIAL: u16 = 206;
+
 /// The status of a question that is not sent, since it is known.
 pub const NOT_MODIFIED: u16 = 304;
 
@@ -33,7 +36,7 @@ const HANDSHAKE: [(&[u8], &[u8]); 3] = [
 ];
 
 /// The longest body of a response, in bytes.
-const LONGEST_BODY: usize = 268_435_456;
+pub(crate) const LONGEST_BODY: usize = 268_435_456;
 
 /// The most header fields of a response.
 const FIELDS: usize = 64;
@@ -186,6 +189,15 @@ impl<'r> Request<'r> {
     }
 }
 
+/// The rest of a file, which is asked for where its tag is still the same (RFC 9110).
+#[derive(Clone, Copy)]
+pub(crate) struct Rest<'r> {
+    /// Where it begins, as `bytes=7-`.
+    pub range: &'r str,
+    /// The tag of what came before.
+    pub tag: &'r [u8],
+}
+
 /// What the head of a response says. An older node tells neither its tag nor its number.
 #[derive(Clone, Copy)]
 pub struct Head {
@@ -195,6 +207,8 @@ pub struct Head {
     pub tag: Option<Tag>,
     /// The peer's number in its roster.
     pub replica: Option<u8>,
+    /// From which byte on it has a file, where it has the rest of one.
+    pub first: Option<u64>,
     // Whether the body is of the type that a node gives for what was asked for.
     is_due: bool,
 }
@@ -205,6 +219,7 @@ impl Head {
         status: 0,
         tag: None,
         replica: None,
+        first: None,
         is_due: false,
     };
 
@@ -214,9 +229,21 @@ impl Head {
             status,
             tag: parse_tag(value_of(text, fields, b"etag")),
             replica: number_in(value_of(text, fields, b"rds-replica")),
+            first: first_in(value_of(text, fields, b"content-range")),
             is_due: is_of_kind(value_of(text, fields, b"content-type"), kind),
         }
     }
+}
+
+/// What came of a response.
+#[derive(Drop)]
+pub(crate) struct Part {
+    /// What its head says.
+    pub head: Head,
+    /// The text of its tag; empty where it has none.
+    pub tag: Vec<u8>,
+    /// The first bytes of its body.
+    pub body: Vec<u8>,
 }
 
 /// A response that has come whole.
@@ -250,6 +277,7 @@ pub struct Talk {
     accept: [u8; 28],
     // What came of the response.
     head: Head,
+    tag: Vec<u8>,
     body: Vec<u8>,
 }
 
@@ -267,6 +295,7 @@ impl Talk {
             kind: &[],
             accept: [0; 28],
             head: Head::NONE,
+            tag: Vec::new(alloc),
             body: Vec::new(alloc),
         }
     }
@@ -312,6 +341,22 @@ impl Talk {
         Ok(())
     }
 
+    /// Writes a request for a file, or for the rest of it.
+    pub(crate) fn request_file(
+        &mut self,
+        destination: &Destination<'_>,
+        resource: Resource,
+        rest: Option<Rest<'_>>,
+    ) -> Result<(), Trouble> {
+        let fields = file_fields(self.alloc, destination, rest)?;
+        let target = resource.front().as_bytes();
+        self.client
+            .write_request(&mut self.output, b"GET", target, &fields, BodySize::Empty)?;
+        self.client.write_end(&mut self.output, &[])?;
+        self.kind = resource.kind();
+        Ok(())
+    }
+
     /// Writes a request for what is told of changes: the connection is to be handed over to WebSocket, by a handshake
     /// of this key (RFC 6455).
     pub(crate) fn handshake(
@@ -338,6 +383,7 @@ impl Talk {
                 Event::Head(head) => {
                     let own = fields.get(..head.headers).unwrap_or(&[]);
                     self.head = Head::read(head.code, self.input.as_slice(), own, self.kind);
+                    self.note_tag(own)?;
                     self.check_handover(own)?;
                     self.check_size()?;
                 }
@@ -369,6 +415,13 @@ impl Talk {
             Event::End(_) => self.response(),
             _ => Err(Trouble::Ended),
         }
+    }
+
+    // Notes the text of the tag in these fields of a head.
+    fn note_tag(&mut self, fields: &[HeaderSpan]) -> Result<(), Trouble> {
+        let tag = value_of(self.input.as_slice(), fields, b"etag");
+        self.tag = Vec::from_slice(self.alloc, tag)?;
+        Ok(())
     }
 
     // Refuses a head with these fields that hands the connection over, but not as the handshake asked for.
@@ -417,10 +470,20 @@ impl Talk {
     {
         let body = mem::replace(&mut self.body, Vec::new(self.alloc));
         let head = mem::replace(&mut self.head, Head::NONE);
-        if head.status == DONE && !head.is_due {
+        let is_done = head.status == DONE || head.status == PARTIAL;
+        if is_done && !head.is_due {
             return Err(Trouble::Foreign);
         }
         Ok(Some(Response { head, body }))
+    }
+
+    /// Hands out what came of a response that isn't whole.
+    pub(crate) fn take_part(&mut self) -> Part {
+        Part {
+            head: mem::replace(&mut self.head, Head::NONE),
+            tag: mem::replace(&mut self.tag, Vec::new(self.alloc)),
+            body: mem::replace(&mut self.body, Vec::new(self.alloc)),
+        }
     }
 
     /// How much has come of a response that isn't whole, in bytes.
@@ -479,6 +542,26 @@ fn fields_of<'f>(
     Ok(fields)
 }
 
+// The fields of a request for a file, or for the rest of it.
+fn file_fields<'f>(
+    alloc: Global,
+    destination: &'f Destination<'_>,
+    rest: Option<Rest<'f>>,
+) -> Result<Vec<Header<'f>>, AllocError> {
+    let mut fields = fields_of(alloc, destination, None)?;
+    if let Some(rest) = rest {
+        fields.push(Header {
+            name: b"range",
+            value: rest.range.as_bytes(),
+        })?;
+        fields.push(Header {
+            name: b"if-range",
+            value: rest.tag,
+        })?;
+    }
+    Ok(fields)
+}
+
 // The fields of a handshake of this key.
 fn handshake_fields<'f>(
     alloc: Global,
@@ -518,6 +601,13 @@ fn is_of_kind(value: &[u8], kind: &[u8]) -> bool {
 // What a span covers of a text; nothing where it goes beyond.
 fn covered(text: &[u8], span: Span) -> &[u8] {
     text.get(span.start..span.end).unwrap_or(&[])
+}
+
+// Where a part of a file begins, by `bytes 7-41/42`.
+fn first_in(value: &[u8]) -> Option<u64> {
+    let range = value.strip_prefix(b"bytes ")?;
+    let end = range.iter().position(|b| *b == b'-')?;
+    str::from_utf8(range.get(..end)?).ok()?.parse::<u64>().ok()
 }
 
 // The number that digits are.

@@ -208,6 +208,14 @@ impl Trouble {
         }
     }
 
+    /// Whether another try may go well: the connection was lost, or couldn't be had.
+    pub(crate) fn may_pass(&self) -> bool {
+        matches!(
+            self,
+            Trouble::System(_) | Trouble::Ended | Trouble::Silence(_)
+        )
+    }
+
     /// The fault that it is for who had the peer do something: the peer's own, where it refused that by one which says
     /// no more than its name.
     pub(crate) fn refusal(&self) -> Fault {

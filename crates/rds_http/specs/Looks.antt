@@ -26,6 +26,7 @@ use Rattle.rds_state.specs.Fits.{ReplicaValue}
 use Rattle.rds_state.specs.Value.{StateValue}
 use Rattle.rds_store.specs.Looks.{IsValueText, RefusesPlace, here_text, text_at_path, view_text}
 use Rattle.rds_store.specs.Meetings.{MayAsk}
+use Rattle.rds_http.specs.Ranges.{TellsFile}
 use Rattle.rds_http.specs.Refusals.{TellsFault, json}
 use Rattle.rds_http.specs.Replies.{Tells, TellsTagged, tag_fields, type_field}
 use Rattle.rds_http.specs.Tags.{always, is_known, state_tag, text_tag}
@@ -136,11 +137,11 @@ ShowsQuestion headers document response =
     × TellsQuestion (is_known headers (always (tag_text tag))) (tag_text tag) document response)
     ⊎ ((fault : Fault) × (MayAsk document (Err fault) ⊎ RefusesTag document fault) × TellsFault fault response)
 
--- a new file of the document is reported, or why it has none
-abbrev pub ShowsSnapshot : ReplicaValue → Response → Type 0
-ShowsSnapshot document response =
+-- a new file of the document is reported, by a tag of its own and from a byte on where that is wanted, or why it has none
+abbrev pub ShowsSnapshot : Entries FieldValue → ReplicaValue → Response → Type 0
+ShowsSnapshot headers document response =
     ((bytes : Vec ℕ) × EncodesFile document (Ok bytes)
-    × Tells 200 (codes "application/octet-stream") bytes.items response)
+    × TellsFile headers (text_tag bytes.items) (codes "application/octet-stream") bytes.items response)
     ⊎ ((fault : Fault) × EncodesFile document (Err fault) × TellsFault fault response)
 
 -- the fields of the page
@@ -166,4 +167,4 @@ AnswersLook Conflicts document place headers response =
 AnswersLook Status document place headers response = ShowsStatus document response
 AnswersLook Metrics document place headers response = response.status ≡ 200
 AnswersLook Ask document place headers response = ShowsQuestion headers document response
-AnswersLook Snapshot document place headers response = ShowsSnapshot document response
+AnswersLook Snapshot document place headers response = ShowsSnapshot headers document response

@@ -18,6 +18,7 @@ mod metrics;
 mod news;
 mod pulling;
 mod putting;
+mod ranges;
 mod reading;
 mod refusals;
 mod replies;

@@ -34,6 +34,7 @@ ghost use Rattle.rds_http.specs.Tags.{text_tag};
 
 use crate::conditions::{Seen, document_tag, seen_of, text_tag};
 use crate::metrics::{Metrics, PeerCounts};
+use crate::ranges::fill_file;
 use crate::refusals::refuse;
 use crate::replies::{BYTES, JSON, LINES, add_field, fill, fill_tagged, tell_known};
 use crate::routes::Look;
@@ -77,7 +78,7 @@ pub fn look<H: Disk>(
         Look::Status => show_status(alloc, file.document(), metrics, response),
         Look::Metrics => show_metrics(alloc, file.document(), metrics, response),
         Look::Ask => show_question(alloc, file, headers, response),
-        Look::Snapshot => show_snapshot(alloc, file.document(), response),
+        Look::Snapshot => show_snapshot(alloc, file.document(), headers, response),
     }
 }
 
@@ -156,17 +157,18 @@ fn add_own(alloc: Global, document: &Document, response: &mut Response) -> Resul
     response.add_header(HeaderName::from_static("rds-replica"), value)
 }
 
-/// Answers with the document's snapshot.
+/// Answers with the document's snapshot, or with the rest of it.
 fn show_snapshot(
     alloc: Global,
     document: &Document,
+    headers: &HeaderMap<HeaderValue>,
     response: &mut Response,
 ) -> Result<(), AllocError>
     requires { IsBlank response.old }
-    ensures { OnOk result (ShowsSnapshot document.now response.new) }
+    ensures { OnOk result (ShowsSnapshot headers.now document.now response.new) }
 {
     match document.snapshot() {
-        Ok(bytes) => fill(response, StatusCode::OK, BYTES, bytes),
+        Ok(bytes) => fill_file(alloc, headers, BYTES, bytes, response),
         Err(fault) => refuse(alloc, fault, response),
     }
 }

@@ -1,5 +1,5 @@
 //! The sites that the program runs, meets, calls and follows.
-use rds_client::{AskWords, Resource, VisitWords, ask_node, sync_site, watch_node};
+use rds_client::{AskWords, Resource, VisitWords, ask_node, fetch_node, sync_site, watch_node};
 use rds_commands::{RunSite, SiteRequest, Visit};
 use rds_files::{Disk, LockFile};
 use rds_names::{Fault, Path};
@@ -83,7 +83,7 @@ where
             SiteRequest::Grow(name) => {
                 ask_node(rt, &words, Resource::Grow, "", &[name.as_bytes()])
             }
-            SiteRequest::Snapshot => ask_node(rt, &words, Resource::Snapshot, "", &[]),
+            SiteRequest::Snapshot => fetch_node(rt, &words, Resource::Snapshot),
         }
     }
 
