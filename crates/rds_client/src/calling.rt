@@ -1,5 +1,6 @@
 //! Calls of a node: a request and its response, over a connection of their own that is waited for.
 use crate::destinations::{Destination, find_node};
+use crate::links::more_seconds;
 use crate::requests::{DONE, NOT_MODIFIED, Request, Resource, Response, Rest, SWITCHED, Talk};
 use crate::troubles::{Trouble, tell};
 use bytes::{Buf, BytesMut};
@@ -21,12 +22,13 @@ const WAITS: u64 = 10;
 const PORTION: u64 = 1_048_576;
 
 /// How long a node is waited for: the timeout bounds each wait, and ten times the timeout the meeting as a whole, to
-/// which each full megabyte (1,048,576 bytes) that came or went adds one timeout more. Without a timeout nothing is
-/// bounded.
+/// which each full megabyte (1,048,576 bytes) that came or went adds one timeout more. What the system took since the
+/// node was heard may still be on its way, and gives a wait more time. Without a timeout nothing is bounded.
 #[derive(Drop)]
 struct Patience {
     limit: Option<Limit>,
     moved: u64,
+    taken: u64,
 }
 
 /// How long a wait may take, and when the meeting began.
@@ -46,12 +48,29 @@ impl Patience {
             }),
             None => None,
         };
-        Ok(Patience { limit, moved: 0 })
+        Ok(Patience {
+            limit,
+            moved: 0,
+            taken: 0,
+        })
     }
 
-    // So many bytes came or went.
-    fn note(&mut self, count: usize) {
+    // The system took so many bytes.
+    fn note_taken(&mut self, count: usize) {
         self.moved = self.moved.saturating_add(count as u64);
+        self.taken = self.taken.saturating_add(count as u64);
+    }
+
+    // So many bytes came: the node has got what was taken before.
+    fn note_heard(&mut self, count: usize) {
+        self.moved = self.moved.saturating_add(count as u64);
+        self.taken = 0;
+    }
+
+    // How long one call may take, where there is time enough.
+    fn once(&self, limit: Limit) -> Duration {
+        let more = Duration::from_secs(more_seconds(self.taken));
+        limit.timeout.saturating_add(more)
     }
 
     // How long the next call may take, or that it may take any time. `Slow` where no time is left.
@@ -61,7 +80,7 @@ impl Patience {
         };
         let spent = limit.began.elapsed(clock)?;
         match limit.whole(self.moved).checked_sub(spent) {
-            Some(left) if !left.is_zero() => Ok(Some(limit.timeout.min(left))),
+            Some(left) if !left.is_zero() => Ok(Some(self.once(limit).min(left))),
             _ => Err(Trouble::Slow {
                 moved: self.moved,
                 seconds: spent.as_secs(),
@@ -73,7 +92,7 @@ impl Patience {
     fn trouble(&self, error: io::Error) -> Trouble {
         match (self.limit, error.kind()) {
             (Some(limit), ErrorKind::WouldBlock | ErrorKind::TimedOut) => {
-                Trouble::Silence(limit.timeout.as_secs())
+                Trouble::Silence(self.once(limit).as_secs())
             }
             _ => Trouble::from(error),
         }
@@ -235,7 +254,7 @@ impl<'a> Caller<'a> {
             match stream.write(talk.output.as_slice()) {
                 Ok(0) => return Err(Trouble::Ended),
                 Ok(count) => {
-                    self.patience.note(count);
+                    self.patience.note_taken(count);
                     let len = talk.output.len();
                     talk.output.advance(count.min(len));
                 }
@@ -261,7 +280,7 @@ impl<'a> Caller<'a> {
             talk.input.reserve(ROOM)?;
             match talk.input.read_from(stream) {
                 Ok(0) => return talk.end()?.ok_or(Trouble::Ended),
-                Ok(count) => self.patience.note(count),
+                Ok(count) => self.patience.note_heard(count),
                 Err(error) if error.kind() == ErrorKind::Interrupted => (),
                 Err(error) => return Err(self.patience.trouble(error)),
             }
