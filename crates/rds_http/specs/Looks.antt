@@ -1,8 +1,9 @@
 -- What is shown of a document.
-use Rattle.std.specs.Prelude.{◌≡◌, ◌⊎◌, ℕ, ◌-◌, Bool, true, false, ◌==◌, List, [], ◌∷◌, ◌++◌, codes, decimal, filter, Result, Ok, Err}
+use Rattle.std.specs.Prelude.{◌≡◌, ◌⊎◌, ℕ, ◌-◌, Bool, true, false, ◌==◌, List, [], ◌∷◌, ◌++◌, codes, decimal, Result, Ok, Err}
 use Rattle.std.specs.Prelude.{length, take}
 use Rattle.std.specs.Prelude.{if◌then◌else◌, MatchResult, Option, None, Some, String, option_map, string_bytes}
 use Rattle.std.specs.Global.{Global, Vec}
+use Rattle.std.specs.List.{count_by}
 use Rattle.std.specs.Str.{is_utf8}
 use Rattle.http1.specs.Fields.{Header}
 use Rattle.http_header.specs.FieldValue.{FieldValue}
@@ -44,7 +45,7 @@ place_text place = if is_utf8 (percent_decode place) then Ok (percent_decode pla
 
 -- how many slashes there are
 abbrev pub slashes : List ℕ → ℕ
-slashes text = length (filter (λ b. b == 47) text)
+slashes text = count_by (λ b. b == 47) text
 
 -- the path that it is. No key has a slash: one that is encoded parts no keys.
 abbrev pub path_in : List ℕ → Result (List ℕ) Fault
