@@ -425,12 +425,10 @@ Example: rds_node sync notes.b 127.0.0.1:4000
          rds_node sync notes.b http://127.0.0.1:7780";
 
 const SYNC_TEXT: &str = "\
-Calls a peer that waits by 'serve', or a node that runs ('run'). Nothing is enciphered. For
-ADDR '-' a session is standard input and output, and told of on standard error, so ssh can
-carry it. A meeting with a node may take ten times --timeout in all, and once more for each
-megabyte that went or came. Output: {\"taken\":1}, with how many components were taken into
-what FILE holds by then; and the fault, if there was one: 10 to 24, and 28 of a node, see
-'help faults'.";
+Calls a peer that waits by 'serve', or a node that runs ('run'). Nothing is enciphered. '-'
+is a session over standard input and output, as by ssh, told of on standard error. With a
+node all may take ten timeouts, and one more a megabyte. Output: {\"taken\":1}, how many
+components FILE took; and the fault, if any: 10 to 24, and 28 of a node ('help faults').";
 
 const SERVE_ABOUT: &str = "Serves the replica in a file to peers";
 
