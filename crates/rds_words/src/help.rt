@@ -386,10 +386,10 @@ Example: rds_node dump notes.a > lines
          rds_node edit other.a < lines";
 
 const DUMP_TEXT: &str = "\
-Output: the lines that 'edit' reads, which give an empty file the same document: that
-below PATH, or all of it with its counters, which count once more where they are there.
-Of a register with several values one line sets each, so the last stands; a line on
-standard error says so before it.
+Output: the lines that 'edit' reads, which give an empty file the same document: what
+stands at PATH and below it, as 'clear' takes it away, or all of it with its counters,
+which count once more where they are there. Of a register with several values one line
+sets each, so the last stands; a line on standard error says so before it.
 Faults of its own: 3 and 4 for a bad PATH.";
 
 const COMPACT_ABOUT: &str = "Writes the file of a replica anew, without records";
