@@ -105,7 +105,7 @@ fn read_amount(bytes: &[u8]) -> Result<(u64, &[u8]), Fault>
 }
 
 /// Which number, what was sent of it, and what the peer has.
-#[tactic(auto, unfolding(crate::specs::CertificateTexts::claim_at))]
+#[tactic(auto, unfolding(crate::specs::CertificateTexts::amounts_at))]
 fn read_claim(bytes: &[u8]) -> Result<((Which, (u64, u64)), &[u8]), Fault>
     ensures { ReadsExactly (λ x. (x.0, x.1.now)) result (amounts_at bytes.now) }
 {
@@ -156,7 +156,7 @@ fn read_tagged(alloc: Global, replicas: u16, tag: u8, bytes: &[u8]) -> Result<(R
 }
 
 /// A row of a certificate, of so many replicas.
-#[tactic(auto, unfolding(crate::specs::CertificateTexts::row_at))]
+#[tactic(auto, unfolding(crate::specs::CertificateTexts::certificate_row_at))]
 pub fn read_certificate_row(
     alloc: Global,
     replicas: u16,
