@@ -24,7 +24,7 @@ ghost use Rattle.rds_bytes.specs.Numbers.{
   numbered_row_text,
   numbered_rows_text,
   numbered_counts_text,
-  keys_in,
+  count_of_keys,
 };
 ghost use Rattle.rds_bytes.specs.Spelling.{short_text, scalar_text, keyed_live_rows_text, keyed_counters_text};
 ghost use Rattle.rds_bytes.specs.Table.{table_number, rows_table, used_keys};
@@ -126,9 +126,9 @@ fn put_rows<'n, S: DotSet>(
     lives: &Lives<S>,
     numbers: &'n [u32],
 ) -> Result<&'n [u32], AllocError>
-    requires { keys_in (live_rows lives.now) ≤ length numbers.now }
+    requires { count_of_keys (live_rows lives.now) ≤ length numbers.now }
     ensures text { Adds out.old.items out.new.items (numbered_rows_text (live_rows lives.now) numbers.now) result }
-    ensures left { IfOk result (λ left. left.now ≡ drop (keys_in (live_rows lives.now)) numbers.now) }
+    ensures left { IfOk result (λ left. left.now ≡ drop (count_of_keys (live_rows lives.now)) numbers.now) }
 {
     let mut left = numbers;
     for (dot, entry) in lives.live() {

@@ -13,11 +13,11 @@ ghost use Rattle.rds_codec.specs.CertificateTexts.{
   dead_at,
   which_at,
   amount_at,
-  claim_at,
+  amounts_at,
   counter_at,
   number_claim_at,
   tagged_row_at,
-  row_at,
+  certificate_row_at,
 };
 ghost use Rattle.rds_bytes.specs.Reading.{Reads, ReadsExactly, number_at, when_at, is_between};
 ghost use Rattle.rds_bytes.specs.Spelling.{byte_text, dot_text};
@@ -105,9 +105,9 @@ fn read_amount(bytes: &[u8]) -> Result<(u64, &[u8]), Fault>
 }
 
 /// Which number, what was sent of it, and what the peer has.
-#[tactic(auto, unfolding(crate::specs::CertificateTexts::claim_at))]
+#[tactic(auto, unfolding(crate::specs::CertificateTexts::amounts_at))]
 fn read_claim(bytes: &[u8]) -> Result<((Which, (u64, u64)), &[u8]), Fault>
-    ensures { ReadsExactly (λ x. (x.0, x.1.now)) result (claim_at bytes.now) }
+    ensures { ReadsExactly (λ x. (x.0, x.1.now)) result (amounts_at bytes.now) }
 {
     let (which, rest) = read_which(bytes)?;
     let (sent, rest) = read_amount(rest)?;
@@ -156,13 +156,13 @@ fn read_tagged(alloc: Global, replicas: u16, tag: u8, bytes: &[u8]) -> Result<(R
 }
 
 /// A row of a certificate, of so many replicas.
-#[tactic(auto, unfolding(crate::specs::CertificateTexts::row_at))]
+#[tactic(auto, unfolding(crate::specs::CertificateTexts::certificate_row_at))]
 pub fn read_certificate_row(
     alloc: Global,
     replicas: u16,
     bytes: &[u8],
 ) -> Result<(Row, &[u8]), Fault>
-    ensures { Reads (λ x. (x.0, x.1.now)) result (row_at replicas bytes.now) }
+    ensures { Reads (λ x. (x.0, x.1.now)) result (certificate_row_at replicas bytes.now) }
 {
     let (tag, rest) = read_byte(bytes)?;
     let (row, rest) = read_tagged(alloc, replicas, tag, rest)?;

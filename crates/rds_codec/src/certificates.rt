@@ -7,7 +7,7 @@ ghost use Rattle.rds_codec.specs.CertificateTexts.{
   IsCertificateOf,
   row_text,
   certificate_text,
-  row_at,
+  certificate_row_at,
   certificate_at,
   certificate_kind,
 };
@@ -32,7 +32,7 @@ pub struct ClaimReader {
 }
 
 impl PartReader<Row> for ClaimReader {
-    ghost reader = { λ r before. row_at r.replicas };
+    ghost reader = { λ r before. certificate_row_at r.replicas };
 
     ghost steady = { λ r before. row_steady r.replicas };
 

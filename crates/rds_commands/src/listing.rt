@@ -20,13 +20,15 @@ ghost use Rattle.rds_names.specs.declared.fault.Fault.TheVariants.{Memory};
 
 use crate::notes::{note_conflicts, note_files, note_part, note_several};
 use crate::offline::status_for;
+use rds_dots::DotSet;
 use rds_files::{Disk, ReplicaFile};
 use rds_gaps::GapSet;
 use rds_keep::Counted;
 use rds_lines::place_of;
-use rds_listing::{Raw, Wanted, conflicts, differences, dump, raw_values};
+use rds_listing::{Raw, Wanted, conflicts, differences, dump, dump_part, raw_values};
 use rds_names::{Fault, Path};
 use rds_output::status_of;
+use rds_state::State;
 use rds_words::RawKind;
 use std::alloc::Global;
 use std::io::Write;
@@ -124,8 +126,20 @@ pub fn dump_file<'a, H: Disk>(
     let alloc = rt.alloc();
     let keys = Path::new(alloc, text)?;
     let file = ReplicaFile::open(rt, path)?;
-    let told = dump(alloc, file.kept().view_of().state(), &keys)?;
+    let told = dump_at(alloc, file.kept().view_of().state(), &keys)?;
     Ok(FileLines { file, told })
+}
+
+// The lines that give what a state's document has at a path and below it.
+fn dump_at<S: DotSet>(alloc: Global, state: &State<S>, path: &Path) -> Result<String, Fault>
+    ensures text { IfOk result (λ text. string_bytes text ≡ dump_text state.now path.now) }
+    ensures memory { IfErr result (λ fault. fault ≡ Memory) }
+{
+    if path.is_empty() {
+        return dump(alloc, state);
+    }
+    let (above, key) = place_of(alloc, path)?;
+    dump_part(alloc, state, &above, &key)
 }
 
 /// The lines of the registers with more than one value below the path of a text.

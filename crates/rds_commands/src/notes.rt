@@ -2,14 +2,19 @@
 //! `rds_files` tells of a file that can't be used or isn't one of rds.
 use crate::causes::{bad_key, bad_name, stands_twice};
 use crate::visits::is_site;
+use rds_dots::DotSet;
 use rds_files::{Disk, ReplicaFile, is_beside};
 use rds_gaps::GapSet;
-use rds_listing::conflicts;
+use rds_lines::place_of;
+use rds_listing::{conflicts, conflicts_shown};
 use rds_names::{Fault, Name, Path};
 use rds_output::Reply;
+use rds_state::State;
+use rds_tree::view_of_key;
 use rds_words::{
     EditWords, GrowWords, InitFromWords, InitWords, ServeWords, SyncWords, ValueWord, amount_of,
 };
+use std::alloc::Global;
 
 /// What a path is.
 const PATH: &str = "1 to 8 keys with '/' between them, each of 1 to 64 bytes";
@@ -267,14 +272,24 @@ pub fn note_unwritten<H: Eprint>(rt: &H, path: &str, changed: bool, status: u8) 
     }
 }
 
-/// Tells each register with more than one value below the path of a text: its lines say which of them is set last.
+/// Tells each register with more than one value at the path of a text and below it: its lines say which of them is set
+/// last.
 pub fn note_conflicts<H: Disk>(rt: &H, file: &ReplicaFile<'_, GapSet>, text: &str) {
     let alloc = rt.alloc();
     if let Ok(keys) = Path::new(alloc, text) {
-        if let Ok(lines) = conflicts(alloc, file.kept().view_of().state(), &keys) {
+        if let Ok(lines) = conflicts_at(alloc, file.kept().view_of().state(), &keys) {
             let _ = eprint!(rt; "{lines}");
         }
     }
+}
+
+// The registers with more than one value at a path and below it, a line each.
+fn conflicts_at<S: DotSet>(alloc: Global, state: &State<S>, path: &Path) -> Result<String, Fault> {
+    if path.is_empty() {
+        return conflicts(alloc, state, path);
+    }
+    let (above, key) = place_of(alloc, path)?;
+    conflicts_shown(alloc, &above, &view_of_key(alloc, state, &above, &key)?)
 }
 
 /// Tells that the words of a command don't go together.

@@ -10,7 +10,7 @@ ghost use Rattle.rds_fields.specs.Tokens.{
   is_token,
   is_token_byte,
   token_in,
-  values_in,
+  field_values,
   without_newline,
   without_space,
 };
@@ -82,7 +82,7 @@ impl Token {
 
     /// Whether an `Authorization` field shows it.
     fn is_borne(&self, headers: &HeaderMap<HeaderValue>) -> bool
-        ensures { result ≡ list_any (is_bearing self.now) (values_in headers.now (codes "authorization")) }
+        ensures { result ≡ list_any (is_bearing self.now) (field_values headers.now (codes "authorization")) }
     {
         for value in headers.get_all(AUTHORIZATION) {
             if self.is_borne_by(value.as_bytes()) {
@@ -104,7 +104,7 @@ impl Token {
 
     /// Whether a `Cookie` field shows it.
     fn is_kept(&self, start: &[u8], headers: &HeaderMap<HeaderValue>) -> bool
-        ensures { result ≡ list_any (has_cookie start.now self.now) (values_in headers.now (codes "cookie")) }
+        ensures { result ≡ list_any (has_cookie start.now self.now) (field_values headers.now (codes "cookie")) }
     {
         for value in headers.get_all(COOKIE) {
             if self.is_among(start, value.as_bytes()) {

@@ -1,5 +1,5 @@
 -- The lines of edits, one after the other.
-use Rattle.std.proofs.Common.{◌≡◌, ◌∙◌, ◌+◌, ◌-◌, ◌<◌, ℕ, ℤ, pos, negsuc, zero, suc, true, false, ◌≢◌, codes, List, [], ◌∷◌, ◌++◌, length, drop, get_or, map, ap, sym, refl, arith, append_assoc}
+use Rattle.std.proofs.Common.{◌≡◌, ◌∙◌, ◌+◌, ◌-◌, ◌<◌, ℕ, ℤ, pos, negsuc, zero, suc, true, false, ◌≢◌, codes, List, [], ◌∷◌, ◌++◌, length, drop, get_or, map, ap, sym, refl, arith, append_assoc, append-nil}
 use Rattle.std.proofs.lemmas.List.{drop_more}
 use Rattle.std.proofs.lemmas.Bool.{ltb-true}
 use Rattle.std.specs.Int.Signed.{lt_z}
@@ -7,9 +7,13 @@ use Rattle.std.specs.List.{flat_map, repeat}
 use Rattle.std.specs.Prelude.{unsigned_abs}
 use Rattle.rds_state.specs.declared.command.Command.{Command}
 use Rattle.rds_state.specs.declared.command.Command.TheVariants.{Dec, Inc}
+use Rattle.rds_state.specs.Value.{StateValue}
+use Rattle.rds_tree.specs.Document.{document}
+use Rattle.rds_tree.specs.Parts.{only_key}
 use Rattle.rds_tree.specs.Shown.{Shown}
 use Rattle.rds_tree.specs.Shows.{counters_in}
-use Rattle.rds_listing.specs.Dump.{amounts, count_line, counter_edits, counts_as_lines, dump_edits, line_of_edit, edits_text, most, standing_edits, sum_edits}
+use Rattle.rds_tree.specs.View.{view_of}
+use Rattle.rds_listing.specs.Dump.{amounts, count_line, counter_edits, counts_as_lines, dump_edits, line_of_edit, edits_text, most, part_edits, standing_edits, sum_edits, values_edits}
 use Rattle.rds_listing.specs.Standings.{StandingValue, standings}
 
 pub edits_append : (xs ys : List Command) → edits_text (xs ++ ys) ≡ edits_text xs ++ edits_text ys
@@ -32,18 +36,37 @@ edits_at {X} edits all i x now next first lt item told is =
     ∙ sym (ap (λ (l : List X). now ++ edits_text (flat_map edits l)) more)
     ∙ told
 
--- the lines of registers and sets, then those of counters
-pub dumped : (path keys : List (List ℕ)) (view shown : Shown) (slice all : List StandingValue) (none front whole : List ℕ) → none ≡ []
+-- the lines of registers and sets
+pub values_dumped : (path keys : List (List ℕ)) (view shown : Shown) (slice all : List StandingValue) (none whole : List ℕ) → none ≡ []
+    → whole ≡ none ++ edits_text (flat_map standing_edits slice)
+    → slice ≡ all → all ≡ standings keys shown → keys ≡ path → shown ≡ view → whole ≡ edits_text (values_edits path view)
+values_dumped path keys view shown slice all none whole empty first same are at is =
+    first
+    ∙ ap (λ (n : List ℕ). n ++ edits_text (flat_map standing_edits slice)) empty
+    ∙ ap (λ (s : List StandingValue). edits_text (flat_map standing_edits s)) (same ∙ are ∙ ap (λ (k : List (List ℕ)). standings k shown) at)
+    ∙ ap (λ (v : Shown). edits_text (values_edits path v)) is
+
+-- these, and then those of counters
+pub dumped : (view shown : Shown) (slice all : List StandingValue) (none front whole : List ℕ) → none ≡ []
     → front ≡ none ++ edits_text (flat_map standing_edits slice) → whole ≡ front ++ edits_text (counter_edits (counters_in shown))
-    → slice ≡ all → all ≡ standings keys shown → keys ≡ path → shown ≡ view → whole ≡ edits_text (dump_edits path view)
-dumped path keys view shown slice all none front whole empty first second same are at is =
-    let values : List StandingValue → List ℕ = λ s. edits_text (flat_map standing_edits s) in
+    → slice ≡ all → all ≡ standings [] shown → shown ≡ view → whole ≡ edits_text (dump_edits view)
+dumped view shown slice all none front whole empty first second same are is =
     let counts : List ℕ = edits_text (counter_edits (counters_in shown)) in
     second
-    ∙ ap (λ (t : List ℕ). t ++ counts) (first ∙ ap (λ (n : List ℕ). n ++ values slice) empty)
-    ∙ ap (λ (s : List StandingValue). values s ++ counts) (same ∙ are ∙ ap (λ (k : List (List ℕ)). standings k shown) at)
-    ∙ sym (edits_append (flat_map standing_edits (standings path shown)) (counter_edits (counters_in shown)))
-    ∙ ap (λ (v : Shown). edits_text (dump_edits path v)) is
+    ∙ ap (λ (t : List ℕ). t ++ counts) (values_dumped [] [] shown shown slice all none front empty first same are refl refl)
+    ∙ sym (edits_append (values_edits [] shown) (counter_edits (counters_in shown)))
+    ∙ ap (λ (v : Shown). edits_text (dump_edits v)) is
+
+-- what stands under a key of a path
+pub under_last : (state : StateValue) (above keys : List (List ℕ)) (key : List ℕ)
+    → part_edits state above (keys ++ key ∷ [])
+    ≡ values_edits (above ++ keys) (only_key key (view_of (document state) (above ++ keys)))
+under_last state above [] key =
+    sym (ap (λ (a : List (List ℕ)). values_edits a (only_key key (view_of (document state) a))) (append-nil above))
+under_last state above (k ∷ []) key = refl
+under_last state above (k ∷ next ∷ keys) key =
+    under_last state (above ++ k ∷ []) (next ∷ keys) key
+    ∙ ap (λ (a : List (List ℕ)). values_edits a (only_key key (view_of (document state) a))) (append_assoc above (k ∷ []) (next ∷ keys))
 
 -- ---- one counter
 

@@ -1,4 +1,4 @@
--- The edits that make a document, as the lines that name no replica.
+-- The edits that make a document, or a part of it, as the lines that name no replica.
 use Rattle.std.specs.Prelude.{ℕ, ℤ, pos, negsuc, zero, suc, ◌+◌, ◌/◌, ◌%◌, List, [], ◌∷◌, ◌++◌, map, Option, Some, None}
 use Rattle.std.specs.List.{flat_map, repeat}
 use Rattle.serde_json.specs.Data.{string}
@@ -10,6 +10,7 @@ use Rattle.rds_state.specs.Value.{StateValue}
 use Rattle.rds_state.specs.declared.command.Command.{Command}
 use Rattle.rds_state.specs.declared.command.Command.TheVariants.{Set, Add, Inc, Dec}
 use Rattle.rds_tree.specs.Document.{document}
+use Rattle.rds_tree.specs.Parts.{only_key}
 use Rattle.rds_tree.specs.Shown.{Shown}
 use Rattle.rds_tree.specs.Shows.{counters_in}
 use Rattle.rds_tree.specs.View.{view_of}
@@ -40,14 +41,24 @@ sum_edits key (pos zero) = Inc key 1 ∷ Dec key 1 ∷ []
 sum_edits key (pos (suc n)) = map (Inc key) (amounts n)
 sum_edits key (negsuc n) = map (Dec key) (amounts n)
 
--- at the root alone there are counters
+-- a view of all has counters, another has none
 abbrev pub counter_edits : Option (List (List ℕ × ℤ)) → List Command
 counter_edits None = []
 counter_edits (Some sums) = flat_map (λ row. sum_edits row.0 row.1) sums
 
--- the edits of a view at a path
-abbrev pub dump_edits : List (List ℕ) → Shown → List Command
-dump_edits path shown = flat_map standing_edits (standings path shown) ++ counter_edits (counters_in shown)
+-- the edits of the registers and sets of a view at a path
+abbrev pub values_edits : List (List ℕ) → Shown → List Command
+values_edits path shown = flat_map standing_edits (standings path shown)
+
+-- the edits of a whole document
+abbrev pub dump_edits : Shown → List Command
+dump_edits shown = values_edits [] shown ++ counter_edits (counters_in shown)
+
+-- the edits of what stands under the last of these keys below a path, and further below; without a key, of all
+abbrev pub part_edits : StateValue → List (List ℕ) → List (List ℕ) → List Command
+part_edits state above [] = dump_edits (view_of (document state) [])
+part_edits state above (key ∷ []) = values_edits above (only_key key (view_of (document state) above))
+part_edits state above (key ∷ next ∷ keys) = part_edits state (above ++ key ∷ []) (next ∷ keys)
 
 -- a counter's key and an amount behind a word
 abbrev pub count_line : List ℕ → List ℕ → ℕ → List ℕ
@@ -65,6 +76,6 @@ line_of_edit edit = compact_text (edit_data edit)
 abbrev pub edits_text : List Command → List ℕ
 edits_text edits = lines_text (map line_of_edit edits)
 
--- those of what a state's document has at a path
+-- those of what a state's document has at a path and below it, as `clear` takes it: at the root alone there are counters
 abbrev pub dump_text : StateValue → List (List ℕ) → List ℕ
-dump_text state path = edits_text (dump_edits path (view_of (document state) path))
+dump_text state path = edits_text (part_edits state [] path)

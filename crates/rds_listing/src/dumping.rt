@@ -15,6 +15,7 @@ ghost use Rattle.rds_listing.specs.Dump.{
   standing_edits,
   sum_edits,
   value_edit,
+  values_edits,
 };
 ghost use Rattle.rds_names.specs.declared.fault.Fault.TheVariants.{Memory};
 ghost use Rattle.rds_tree.specs.Shown.{shown_view};
@@ -28,33 +29,57 @@ use crate::standings::{Standing, standings_of};
 use rds_dots::DotSet;
 use rds_names::{Fault, Key, Kind, Path, Scalar};
 use rds_state::State;
-use rds_tree::{View, view};
+use rds_tree::{View, view, view_of_key};
 use serde_json::Value;
 use std::alloc::Global;
 
 /// The most that a line raises a counter by.
 const MOST: u64 = 281_474_976_710_655;
 
-/// The edits that make what a state's document has below a path, each as a line that names no replica: a register is
-/// set to each of its values, so the last stays; each element is added; and where the path is the root each counter is
-/// raised, or lowered, to what it stands at.
-pub fn dump<S: DotSet>(alloc: Global, state: &State<S>, path: &Path) -> Result<String, Fault>
-    ensures text { IfOk result (λ text. string_bytes text ≡ dump_text state.now path.now) }
+/// The edits that make a state's document, each as a line that names no replica: a register is set to each of its
+/// values, so the last stays; each element is added; and each counter is raised, or lowered, to what it stands at.
+pub fn dump<S: DotSet>(alloc: Global, state: &State<S>) -> Result<String, Fault>
+    ensures text { IfOk result (λ text. string_bytes text ≡ dump_text state.now []) }
     ensures memory { IfErr result (λ fault. fault ≡ Memory) }
 {
-    let shape = view(alloc, state, path)?;
-    dump_shown(alloc, path, &shape)
+    let root = Path::new(alloc, "")?;
+    dump_shown(alloc, &view(alloc, state, &root)?)
 }
 
-/// The same of what a document shows at the path.
-pub fn dump_shown(alloc: Global, path: &Path, shape: &View) -> Result<String, Fault>
-    ensures text { IfOk result (λ text. string_bytes text ≡ edits_text (dump_edits path.now (shown_view shape.now))) }
+/// The same of what stands under a key of a path, and below it, but without counters: it is what a `clear` of that takes
+/// away.
+pub fn dump_part<S: DotSet>(
+    alloc: Global,
+    state: &State<S>,
+    above: &Path,
+    key: &Key,
+) -> Result<String, Fault>
+    ensures text { IfOk result (λ text. string_bytes text ≡ dump_text state.now (above.now ++ key.now ∷ [])) }
+    ensures memory { IfErr result (λ fault. fault ≡ Memory) }
+{
+    dump_values(alloc, above, &view_of_key(alloc, state, above, key)?)
+}
+
+/// The lines of what a document shows.
+pub fn dump_shown(alloc: Global, shape: &View) -> Result<String, Fault>
+    ensures text { IfOk result (λ text. string_bytes text ≡ edits_text (dump_edits (shown_view shape.now))) }
+    ensures memory { IfErr result (λ fault. fault ≡ Memory) }
+{
+    let all = standings_of(alloc, &[], shape)?;
+    let mut text = String::new(alloc);
+    push_standings(alloc, &mut text, all.as_slice())?;
+    push_counters(alloc, &mut text, shape)?;
+    Ok(text)
+}
+
+/// The lines of the registers and sets that a document shows at a path.
+pub fn dump_values(alloc: Global, path: &Path, shape: &View) -> Result<String, Fault>
+    ensures text { IfOk result (λ text. string_bytes text ≡ edits_text (values_edits path.now (shown_view shape.now))) }
     ensures memory { IfErr result (λ fault. fault ≡ Memory) }
 {
     let all = standings_of(alloc, path.keys(), shape)?;
     let mut text = String::new(alloc);
     push_standings(alloc, &mut text, all.as_slice())?;
-    push_counters(alloc, &mut text, shape)?;
     Ok(text)
 }
 

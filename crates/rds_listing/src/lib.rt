@@ -20,6 +20,6 @@ mod telling;
 pub use bare::{Raw, Wanted, raw_of, raw_values};
 pub use certificates::evidence;
 pub use conflicting::{conflicts, conflicts_shown};
-pub use dumping::{dump, dump_shown};
+pub use dumping::{dump, dump_part, dump_shown, dump_values};
 pub use presence::stands;
 pub use telling::differences;

@@ -15,7 +15,7 @@ ghost use Rattle.serde_json.specs.Written.{compact_text};
 use crate::document::Document;
 use rds_json::{show, show_at};
 use rds_lines::{overview_json, place_of};
-use rds_listing::{conflicts_shown, dump_shown};
+use rds_listing::{conflicts_shown, dump_shown, dump_values};
 use rds_names::{Fault, Key, Path};
 use rds_state::Mark;
 use rds_tree::View;
@@ -76,12 +76,17 @@ impl Document {
         conflicts_shown(self.alloc, &path, &self.index.view(&path)?)
     }
 
-    /// The edits that make what the document has below a path, each as a line that `edit_line` takes.
+    /// The edits that make what the document has at a path and below it, each as a line that `edit_line` takes. There are
+    /// counters among them where the path is the root.
     pub fn dump(&self, path: &str) -> Result<String, Fault>
         ensures { MayTell result (text_at_path dump_text self.now.state path.now) }
     {
         let path = Path::new(self.alloc, path)?;
-        dump_shown(self.alloc, &path, &self.index.view(&path)?)
+        if path.is_empty() {
+            return dump_shown(self.alloc, &self.index.view(&path)?);
+        }
+        let (above, key) = place_of(self.alloc, &path)?;
+        dump_values(self.alloc, &above, &self.index.view_of_key(&above, &key)?)
     }
 
     /// The mark by which replicas are compared at a glance: those that have the same updates have the same. It is kept

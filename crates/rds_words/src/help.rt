@@ -386,10 +386,10 @@ Example: rds_node dump notes.a > lines
          rds_node edit other.a < lines";
 
 const DUMP_TEXT: &str = "\
-Output: the lines that 'edit' reads, which give an empty file the same document: that
-below PATH, or all of it with its counters, which count once more where they are there.
-Of a register with several values one line sets each, so the last stands; a line on
-standard error says so before it.
+Output: the lines that 'edit' reads, which give an empty file the same document: what
+stands at PATH and below it, as 'clear' takes it away, or all of it with its counters,
+which count once more where they are there. Of a register with several values one line
+sets each, so the last stands; a line on standard error says so before it.
 Faults of its own: 3 and 4 for a bad PATH.";
 
 const COMPACT_ABOUT: &str = "Writes the file of a replica anew, without records";
@@ -425,12 +425,10 @@ Example: rds_node sync notes.b 127.0.0.1:4000
          rds_node sync notes.b http://127.0.0.1:7780";
 
 const SYNC_TEXT: &str = "\
-Calls a peer that waits by 'serve', or a node that runs ('run'). Nothing is enciphered. For
-ADDR '-' a session is standard input and output, and told of on standard error, so ssh can
-carry it. A meeting with a node may take ten times --timeout in all, and once more for each
-megabyte that went or came. Output: {\"taken\":1}, with how many components were taken into
-what FILE holds by then; and the fault, if there was one: 10 to 24, and 28 of a node, see
-'help faults'.";
+Calls a peer that waits by 'serve', or a node that runs ('run'). Nothing is enciphered. '-'
+is a session over standard input and output, as by ssh, told of on standard error. With a
+node all may take ten timeouts, and one more a megabyte. Output: {\"taken\":1}, how many
+components FILE took; and the fault, if any: 10 to 24, and 28 of a node ('help faults').";
 
 const SERVE_ABOUT: &str = "Serves the replica in a file to peers";
 

@@ -7,6 +7,6 @@ use Rattle.rds_listing.proofs.dumping.dump_shown.Goals as goal
 pub returns-clause-text : goal.returns-clause-text
 returns-clause-text c =
     let shown = shown_view c.args.shape.now in
-    dumped c.args.path.now c.keys.result.now shown shown c.as_slice.result.now c.in_ok-all.all.items
+    dumped shown shown c.as_slice.result.now c.in_ok-all.all.items
     (string_bytes c.new-text.result) (string_bytes c.push_standings.new.text) (string_bytes c.push_counters.new.text)
-    c.new-text.ensures.bytes c.in_ok-push_standings.ensures.text c.in_ok-push_counters.ensures.text c.as_slice.ensures.value c.in_ok-all.ensures.ok c.keys.ensures.keys refl
+    c.new-text.ensures.bytes c.in_ok-push_standings.ensures.text c.in_ok-push_counters.ensures.text c.as_slice.ensures.value c.in_ok-all.ensures.ok refl
