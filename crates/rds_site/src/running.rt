@@ -73,8 +73,13 @@ where
     };
     let _note = note_holder(rt, words.file, &turns);
     for _ in 0..u64::MAX {
-        if let Err(fault) = turns.turn(rt) {
-            return fault;
+        match turns.turn(rt) {
+            Ok(true) => (),
+            Ok(false) => match turns.reopen(rt) {
+                Ok(again) => turns = again,
+                Err(fault) => return fault,
+            },
+            Err(fault) => return fault,
         }
     }
     Fault::Device
@@ -106,12 +111,16 @@ where
     let address = door.address().unwrap_or(address);
     let access = Access::new(address, token, words.is_open);
     let logged = LoggedSite {
+        alloc: rt.alloc(),
         file: words.file,
         site: Site::new(rt.alloc(), file, access),
         log: log_of(rt.alloc(), words.log),
         client: address,
         forks: 0,
         is_behind: false,
+        stalled: None,
+        is_trying: false,
+        answered: None,
     };
     let _ = eprintln!(rt; "listening on http://{address}/");
     Ok(Turns::new(logged, door, clients, peers, reserve, now))
