@@ -6,7 +6,6 @@ import itertools
 import json
 import os
 import resource
-import shutil
 import signal
 import threading
 import time
@@ -69,22 +68,34 @@ class SmallFiles:
         pass
 
 
+class SmallNode(Node):
+    """A node on a small disk, and what it says elsewhere. It heeds no signal that it passed a limit."""
+
+    def begin(self, **means):
+        heedless = {"restore_signals": False, "preexec_fn": lambda: signal.signal(signal.SIGXFSZ, signal.SIG_IGN)}
+        with open(self.place(), "wb") as errors:
+            super().begin(**{"stdout": errors, "stderr": errors} | heedless | means)
+
+    def place(self):
+        return self.folder.with_name("said")
+
+    def said(self):
+        return self.place().read_text(errors="replace")
+
+
 @contextlib.contextmanager
-def small_disk(folder):
-    """A disk that can be filled: a small one where this process may mount one."""
+def on_small_disk(asked, folder):
+    """A disk that can be filled, a small one where this process may mount one, and a node on it."""
+    folder.mkdir()
     try:
-        disk = SmallDisk(folder)
+        disk = SmallDisk(folder / "small")
     except OSError:
-        shutil.rmtree(folder)
-        disk = SmallFiles(folder)
+        (folder / "small").rmdir()
+        disk = SmallFiles(folder / "small")
     try:
-        yield disk
+        yield disk, SmallNode(asked.program, folder / "small")
     finally:
         disk.end()
-
-
-# What a limit sends to who passes it.
-HEEDLESS = {"restore_signals": False, "preexec_fn": lambda: signal.signal(signal.SIGXFSZ, signal.SIG_IGN)}
 
 
 class Edits:
@@ -149,21 +160,23 @@ def judge_refusals(node):
 
 def try_one(asked, folder):
     """One that edits, one that looks and one that listens, while the disk fills, is full, and has room again."""
-    with small_disk(folder) as disk:
-        node, sent = Node(asked.program, folder), Edits()
+    with on_small_disk(asked, folder) as (disk, node):
+        sent, has_log = Edits(), isinstance(disk, SmallDisk)
+        node.words += ["--log"] * has_log
         node.told("init", "b.rds", "g", "b", "a", "b")
-        with running(node, **HEEDLESS), node.link() as looking, listener(node) as hears:
+        with running(node), node.link() as looking, listener(node) as hears:
             for _ in range(10):
                 want(sent.one(node), "an edit isn't done where there is room")
             for _ in range(2):
                 fills(node, sent, disk, looking, hears)
-            want(node.said().count(BEGINS) == node.said().count(ENDS) == 2, f"the node says {node.said()}")
+            want(node.said().count(BEGINS) == node.said().count(ENDS) == 2, f"the node says {node.said()[-2000:]}")
+            counts = {node.count("rds_edits_total"), *[node.said().count(" POST /edits 200 ")] * has_log}
+            want(counts == {len(sent.done)}, f"of {len(sent.done)} edits that were done, {counts} are told")
         sent.judge(node, node.shown())
-        with running(node, **HEEDLESS):
+        with running(node):
             sent.judge(node, node.document())
             want(sent.one(node), "a node that starts again refuses an edit")
-        kind = {SmallDisk: "a full disk", SmallFiles: "a limit of files"}[type(disk)]
-        return f"by {kind} {len(sent.refused)} edits are refused, and {len(sent.done)} done, none of which is lost"
+        return f"by {'a full disk' if has_log else 'a limit of files'} {len(sent.refused)} edits are refused, and {len(sent.done)} done, none of which is lost"
 
 
 def fills(node, sent, disk, looking, hears):
@@ -181,6 +194,7 @@ def fills(node, sent, disk, looking, hears):
     while time.monotonic() < begun + 4:
         want(not sent.one(node), "an edit is done on a full disk")
         sent.judge(node, json.loads(looking.answer(node.text("GET", "/doc")).body))
+        time.sleep(0.01)
     tries = node.said().count("cannot write a.rds: ") - tries
     want(tries < 4, f"in 4 s a full disk is tried {tries} times")
     want(hears.frame(0.1) is None, "a listener hears of an edit that was refused")
@@ -195,9 +209,9 @@ def fills(node, sent, disk, looking, hears):
 
 def try_many(asked, folder):
     """Sixteen clients that edit while the disk fills and has room again, again and again, and one that looks."""
-    with small_disk(folder) as disk:
-        node, sent = Node(asked.program, folder), Edits("x")
-        with running(node, **HEEDLESS):
+    with on_small_disk(asked, folder) as (disk, node):
+        sent = Edits("x")
+        with running(node):
             with looking_at(node) as looks:
                 for _ in range(3):
                     drive(node.port, 16, sent.requests(node), sent.heard, 0.1)
@@ -237,9 +251,9 @@ def looking_at(node):
 
 def try_pipe(asked, folder):
     """Requests behind one another: the first that came to nothing is answered so, and the connection ends."""
-    with small_disk(folder) as disk:
-        node, sent = Node(asked.program, folder), Edits()
-        with running(node, **HEEDLESS):
+    with on_small_disk(asked, folder) as (disk, node):
+        sent = Edits()
+        with running(node):
             want(sent.one(node), "an edit isn't done where there is room")
             disk.fill(node)
             sent.until(node, False)
@@ -267,12 +281,11 @@ def try_pipe(asked, folder):
 
 def try_peer(asked, folder):
     """A peer brings nothing to a full disk, hears of nothing that was refused, and brings all once there is room."""
-    folder.mkdir()
-    with small_disk(folder / "small") as disk:
-        node, peer, sent = Node(asked.program, folder / "small"), Node(asked.program, folder / "peer", own="b"), Edits()
+    with on_small_disk(asked, folder) as (disk, node):
+        peer, sent = Node(asked.program, folder / "peer", own="b"), Edits()
         node.meets(peer.port, every=1)
         peer.meets(node.port, every=1)
-        with running(node, **HEEDLESS), running(peer):
+        with running(node), running(peer):
             want(sent.one(node), "an edit isn't done where there is room")
             are_equal([node, peer])
             disk.fill(node)
