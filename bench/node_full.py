@@ -7,10 +7,11 @@ import json
 import os
 import resource
 import signal
+import subprocess
 import threading
 import time
 
-from serving import LIMIT, Ended, Node, are_equal, drive, each_of, listener, running, soon, want
+from serving import HOST, LIMIT, Ended, Node, are_equal, drive, each_of, listener, running, soon, want
 
 # A text so long that few of them fill what is left of a page.
 LONG = "x" * 1_000
@@ -154,6 +155,10 @@ def judge_refusals(node):
             want(link.answer(node.text("GET", target)).status == 200, f"{target} isn't answered while the disk is full")
         question = node.told("ask", "b.rds")
         want(link.answer(node.text("POST", "/answer", question)).status == 200, "a question isn't answered")
+    means = {"capture_output": True, "text": True, "timeout": LIMIT}
+    ran = subprocess.run([node.program, "inc", f"http://{HOST}:{node.port}", "n", "1"], **means)
+    is_due = (ran.returncode, ran.stdout) == (1, "fault 24: Device\n") and "refused: 507: 24 Device" in ran.stderr
+    want(is_due, f"a command is answered {ran}")
     told = node.status()["unwritable"], node.count("rds_unwritable")
     want(told == (True, 1), f"a node whose disk is full tells {told}")
 
@@ -309,5 +314,26 @@ def try_peer(asked, folder):
     return f"a peer brings what it has once there is room, after {tries} tries"
 
 
+def try_lost(asked, folder):
+    """A node whose file is an older one when it is read anew, or none of rds, ends, and leaves it as it is."""
+    folder.mkdir()
+    for what, fault in ("an older one", "24: Device"), ("no file of rds", "13: Bad"):
+        with on_small_disk(asked, folder / what) as (disk, node):
+            sent, file = Edits(), node.folder / "a.rds"
+            node.start()
+            want(sent.one(node), "an edit isn't done where there is room")
+            older = file.read_bytes() if what == "an older one" else b"no file of rds"
+            for _ in range(4):
+                want(sent.one(node), "an edit isn't done where there is room")
+            disk.fill(node)
+            file.write_bytes(older)
+            with contextlib.suppress(OSError, Ended):
+                sent.until(node, False)
+            status, said = node.child.wait(LIMIT), node.said()
+            is_due = status == 1 and said.endswith(f"fault {fault}\n") and file.read_bytes() == older
+            want(is_due, f"where its file is {what} a node ends with {status}: {said}")
+    return "one whose file isn't what it was ends"
+
+
 def try_full(asked, folder):
-    return each_of([try_one, try_many, try_pipe, try_peer], asked, folder)
+    return each_of([try_one, try_many, try_pipe, try_peer, try_lost], asked, folder)
