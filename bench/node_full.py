@@ -181,7 +181,8 @@ def try_one(asked, folder):
         with running(node):
             sent.judge(node, node.document())
             want(sent.one(node), "a node that starts again refuses an edit")
-        return f"by {'a full disk' if has_log else 'a limit of files'} {len(sent.refused)} edits are refused, and {len(sent.done)} done, none of which is lost"
+        by = "a full disk" if has_log else "a limit of files"
+        return f"by {by} {len(sent.refused):,} edits are refused, and {len(sent.done)} done, none of which is lost"
 
 
 def fills(node, sent, disk, looking, hears):

@@ -1,8 +1,8 @@
 //! The HTTP service over a document in its file: what a request is answered, and what it changes. Read `routes` and
 //! `access` first, then `asked`, `touched` and `tracked`, which has the document in its file. Then `replies`,
 //! `refusals`, `conditions`, `reading`, `pulling`, `families`, `metrics`, `lines`, `changing`, `putting`, `login` and
-//! `live`, and `reopening`, for a file that couldn't be written. `site` puts them together; `meeting` has what a site asks
-//! of others, and they of it, and `news` what listeners are told.
+//! `live`, and `reopening`, for a file that couldn't be written. `site` puts them together; `meeting` has what a site
+//! asks of others, and they of it, and `news` what listeners are told.
 #![tactic(auto)]
 
 mod access;

@@ -1,5 +1,6 @@
 -- What a site answers whose file can't be written for now.
-use Rattle.std.specs.Prelude.{◌≡◌, ℕ, Bool, true, false, List, [], ◌∷◌, Option, None, Some, codes, decimal, if◌then◌else◌}
+use Rattle.std.specs.Prelude.{◌≡◌, ℕ, Bool, true, false, List, [], ◌∷◌, Option, None, Some, codes, decimal}
+use Rattle.std.specs.Prelude.{if◌then◌else◌}
 use Rattle.http.specs.declared.request.Request.{Request}
 use Rattle.http_server.specs.declared.response.Response.{Response}
 use Rattle.http_server.specs.Response.{IsResponse}
@@ -17,7 +18,7 @@ is_change request = may_change (asked_in request)
 abbrev pub stall_of : Option ℕ → Request (List ℕ) → Option ℕ
 stall_of stalled request = if is_change request then stalled else None
 
--- the fault is told, and after how many seconds the request may be tried again
+-- the fault is reported, and after how many seconds the request may be tried again
 abbrev pub TellsStall : ℕ → Response → Type 0
 TellsStall seconds response =
     IsResponse 507 (type_field json ∷ (codes "retry-after", decimal seconds) ∷ [])

@@ -257,8 +257,8 @@ impl Client {
     }
 
     /// Reads what the client says, up to a limit, and until something is due to it. The service answers its requests,
-    /// in memory. What was answered in an earlier turn is sent before another request is answered, so that all that is due
-    /// to it is of one turn.
+    /// in memory. What was answered in an earlier turn is sent before another request is answered, so that all that is
+    /// due to it is of one turn.
     pub fn hear<S: Service>(&mut self, service: &mut S) {
         if self.heard == Heard::Gone {
             return;

@@ -44,7 +44,7 @@ impl Log {
         }
     }
 
-    // Notes a request of a client, and what it is answered. It may be answered other, where something has changed by then.
+    // Notes a request of a client, and what it is answered. That may be replaced, where something has changed by then.
     fn note(
         &mut self,
         client: SocketAddr,
@@ -60,7 +60,7 @@ impl Log {
         }
     }
 
-    // Drops the lines of what was answered other.
+    // Drops the lines of answers that were replaced.
     fn cut(&mut self) {
         self.lines.truncate(self.fixed);
     }
@@ -96,7 +96,8 @@ pub struct LoggedSite<'a, H: Disk> {
     pub stalled: Option<u64>,
     /// Whether one change is tried, since the file couldn't be written.
     pub is_trying: bool,
-    /// Whether the first request that the client was answered in this turn may change the document, where there was one.
+    /// Whether the first request that the client was answered in this turn may change the document, where there was
+    /// one.
     pub answered: Option<bool>,
 }
 

@@ -47,8 +47,8 @@ impl<'a> Peers<'a> {
         })
     }
 
-    /// What was counted, beside how many requests came of a fork, whether the file is behind, and whether it couldn't be
-    /// written.
+    /// What was counted, beside how many requests came of a fork, whether the file is behind, and whether it couldn't
+    /// be written.
     pub fn counts(&self, forks: u64, is_behind: bool, is_unwritable: bool) -> PeerCounts {
         PeerCounts {
             named: self.table.len(),

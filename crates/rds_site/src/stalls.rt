@@ -24,6 +24,13 @@ const LONGEST: u64 = 60;
 const REFUSAL: &str =
     "{\"fault\":24,\"name\":\"Device\",\"text\":\"reading, writing or another call of the system failed\"}";
 
+/// How the answer begins that is sent in place of what a change was answered, and of what a look was.
+const UNKEPT: &str =
+    "HTTP/1.1 507 Insufficient Storage\r\nconnection: close\r\ncontent-type: application/json\r\n";
+
+const UNSEEN: &str =
+    "HTTP/1.1 503 Service Unavailable\r\nconnection: close\r\nretry-after: 0\r\ncontent-length: 0\r\n\r\n";
+
 /// While a site's file can't be written: until when what would change the document is refused, and for how many seconds
 /// that was.
 #[derive(Clone, Copy, Debug)]
@@ -100,22 +107,19 @@ pub fn refuse_change(alloc: Global, seconds: u64, response: &mut Response) -> Re
 }
 
 /// The last answer over a connection whose requests of a turn came to nothing, as a text of HTTP: to a change that it
-/// wasn't kept, and to what only looks that it may have shown such a change. It may be tried again after so many
+/// wasn't kept, and to what only looks that it may have shown such a change. A change may be tried again after so many
 /// seconds.
 pub fn parting(alloc: Global, is_change: bool, seconds: u64) -> Result<BytesMut, AllocError> {
     let mut text = BytesMut::new(alloc);
-    let head = if is_change {
+    if is_change {
         let length = REFUSAL.len();
-        format!(in alloc;
-            "HTTP/1.1 507 Insufficient Storage\r\ncontent-type: application/json\r\nretry-after: {seconds}\r\nconnection: close\r\ncontent-length: {length}\r\n\r\n{REFUSAL}"
-        )?
+        let whole = format!(in alloc;
+            "{UNKEPT}retry-after: {seconds}\r\ncontent-length: {length}\r\n\r\n{REFUSAL}"
+        )?;
+        text.extend_from_slice(whole.as_bytes())?;
     } else {
-        String::from_str(
-            alloc,
-            "HTTP/1.1 503 Service Unavailable\r\nretry-after: 0\r\nconnection: close\r\ncontent-length: 0\r\n\r\n",
-        )?
-    };
-    text.extend_from_slice(head.as_bytes())?;
+        text.extend_from_slice(UNSEEN.as_bytes())?;
+    }
     Ok(text)
 }
 

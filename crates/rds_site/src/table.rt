@@ -146,8 +146,8 @@ impl Clients {
     }
 
     /// Hears those that have a turn, from now on. One that takes more room than is left for requests is let go. One that
-    /// made others wait is put off while the rest lasts. Where one change is tried, all behind it are put off, so that no
-    /// other answer depends on it.
+    /// made others wait is put off while the rest lasts. Where one change is tried, all behind it are put off, so that
+    /// no other answer depends on it.
     pub fn hear<H: Disk>(&mut self, rt: &H, site: &mut LoggedSite<'_, H>, now: Instant)
     where
         H::File: LockFile,
@@ -240,8 +240,8 @@ impl Clients {
         self.due.clear();
     }
 
-    /// The turn wasn't kept: those that were answered in it what isn't so are sent another answer, by which they may try
-    /// again after so many seconds, and none after that.
+    /// The turn wasn't kept: those that were answered in it what isn't so are sent another answer, by which they may
+    /// try again after so many seconds, and none after that.
     pub fn refuse(&mut self, seconds: u64) {
         for at in 0..self.due.len() {
             if let Some(key) = self.due.get(at).copied() {

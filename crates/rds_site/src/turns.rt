@@ -158,8 +158,8 @@ where
     }
 
     // Keeps what changed, and sends what is due, unless that can't be written. Answers when it was kept: from then on
-    // clients and peers have their time to take what is sent, however long the turn took. Many connections may have taken
-    // all other descriptors, so those in reserve are let go for it.
+    // clients and peers have their time to take what is sent, however long the turn took. Many connections may have
+    // taken all other descriptors, so those in reserve are let go for it.
     fn send(&mut self, rt: &H) -> Result<Option<Instant>, Fault>
     where
         H: Net,
