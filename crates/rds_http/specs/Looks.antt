@@ -110,11 +110,11 @@ peers_text peers each =
     codes ",\"peers\":{\"named\":" ++ (decimal peers.named ++ (codes ",\"met\":" ++ (decimal peers.met
     ++ (codes ",\"forked\":" ++ (decimal peers.forked ++ (codes ",\"each\":" ++ (each ++ codes "}")))))))
 
--- how many requests came of a fork, and whether the file is behind
+-- how many requests came of a fork, whether the file is behind, and whether it couldn't be written
 abbrev pub callers_text : PeerCounts → List ℕ
 callers_text peers =
     codes ",\"callers\":{\"forked\":" ++ (decimal peers.forks ++ (codes "},\"behind\":"
-    ++ (truth_text peers.is_behind ++ codes "}")))
+    ++ (truth_text peers.is_behind ++ (codes ",\"unwritable\":" ++ (truth_text peers.is_unwritable ++ codes "}")))))
 
 -- an object of JSON with these as its last members
 abbrev pub with_peers : List ℕ → PeerCounts → List ℕ → List ℕ

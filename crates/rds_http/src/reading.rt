@@ -433,12 +433,15 @@ fn with_peers(alloc: Global, object: String, metrics: &Metrics) -> Result<Vec<u8
         exchanges: _,
         forks,
         is_behind,
+        is_unwritable,
     } = metrics.peers;
     let each = metrics.standings_json(alloc)?;
     let told = format!(in alloc;
         ",\"peers\":{{\"named\":{named},\"met\":{met},\"forked\":{forked},\"each\":{each}}}"
     )?;
-    let shown = format!(in alloc; ",\"callers\":{{\"forked\":{forks}}},\"behind\":{is_behind}}}")?;
+    let shown = format!(in alloc;
+        ",\"callers\":{{\"forked\":{forks}}},\"behind\":{is_behind},\"unwritable\":{is_unwritable}}}"
+    )?;
     let mut bytes = object.into_bytes();
     bytes.truncate(bytes.len().saturating_sub(1));
     bytes.extend_from_slice(told.as_bytes())?;
