@@ -57,7 +57,9 @@ pub fn dump_part<S: DotSet>(
     ensures text { IfOk result (λ text. string_bytes text ≡ dump_text state.now (above.now ++ key.now ∷ [])) }
     ensures memory { IfErr result (λ fault. fault ≡ Memory) }
 {
-    dump_values(alloc, above, &view_of_key(alloc, state, above, key)?)
+    let shape = view_of_key(alloc, state, above, key)?;
+    let text = dump_values(alloc, above, &shape)?;
+    Ok(text)
 }
 
 /// The lines of what a document shows.
