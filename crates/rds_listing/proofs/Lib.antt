@@ -1,4 +1,4 @@
-mod Amounts
+pub mod Amounts
 mod ConflictLines
 mod Examples
 mod Joined

@@ -1,5 +1,5 @@
 //! What is reported of a document.
-ghost use Rattle.std.specs.Prelude.{◌≡◌, ◌⊎◌, IfOk, IfErr, string_bytes};
+ghost use Rattle.std.specs.Prelude.{◌≡◌, ◌⊎◌, ◌++◌, ◌∷◌, [], IfOk, IfErr, string_bytes};
 ghost use Rattle.rds_json.specs.Standing.{standing_data};
 ghost use Rattle.rds_lines.specs.Overview.{IsOverview};
 ghost use Rattle.rds_listing.specs.Conflicts.{conflicts_text};
@@ -83,10 +83,30 @@ impl Document {
     {
         let path = Path::new(self.alloc, path)?;
         if path.is_empty() {
-            return dump_shown(self.alloc, &self.index.view(&path)?);
+            return self.dump_all();
         }
         let (above, key) = place_of(self.alloc, &path)?;
-        dump_values(self.alloc, &above, &self.index.view_of_key(&above, &key)?)
+        self.dump_part(&above, &key)
+    }
+
+    /// The edits that make the document.
+    fn dump_all(&self) -> Result<String, Fault>
+        ensures text { IfOk result (λ text. string_bytes text ≡ dump_text self.now.state []) }
+        ensures memory { IfErr result (λ fault. fault ≡ Memory) }
+    {
+        let root = Path::new(self.alloc, "")?;
+        dump_shown(self.alloc, &self.index.view(&root)?)
+    }
+
+    /// The edits that make what stands under a key of a path, and below it.
+    fn dump_part(&self, above: &Path, key: &Key) -> Result<String, Fault>
+        ensures text { IfOk result
+            (λ text. string_bytes text ≡ dump_text self.now.state (above.now ++ key.now ∷ [])) }
+        ensures memory { IfErr result (λ fault. fault ≡ Memory) }
+    {
+        let shape = self.index.view_of_key(above, key)?;
+        let text = dump_values(self.alloc, above, &shape)?;
+        Ok(text)
     }
 
     /// The mark by which replicas are compared at a glance: those that have the same updates have the same. It is kept
