@@ -1,6 +1,6 @@
 //! What a site does whose file can't be written for now, as where the disk is full: what would change the document is
 //! refused for a while, and then one change is tried.
-ghost use Rattle.std.specs.Prelude.{◌≡◌, ◌<◌, ◌≤◌, ◌⊎◌, OnOk};
+ghost use Rattle.std.specs.Prelude.{◌≡◌, ◌<◌, ◌≤◌, OnOk};
 ghost use Rattle.http_server.specs.Response.{IsBlank};
 ghost use Rattle.rds_site.specs.Stalls.{TellsStall, is_change};
 
@@ -75,7 +75,7 @@ impl Stall {
 /// The pause after one of so many seconds: twice as long, of a minute at most.
 fn longer(pause: u64) -> u64
     ensures most { result ≤ 60 }
-    ensures longer { pause ≤ 30 → 0 < pause → pause < result }
+    ensures grows { pause ≤ 30 → 0 < pause → pause < result }
     ensures longest { 30 < pause → result ≡ 60 }
 {
     pause.saturating_mul(2).min(LONGEST)
