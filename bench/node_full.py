@@ -124,7 +124,7 @@ class Edits:
             return self.heard(number, b"HTTP/1.1 %d \r\n\r\n" % answer.status + answer.body)
 
     def judge(self, node, document):
-        found = {int(name[1:]) for name in document["maps"]["k"]["regs"]}
+        found = found_in(document)
         want(found == self.done, f"{node.own} lacks {sorted(self.done - found)}, and has {sorted(found - self.done)}")
 
     def until(self, node, is_done, seconds=LIMIT):
@@ -141,6 +141,10 @@ CHANGES = [
     ("POST", "/take", b""),
     ("POST", "/push", b""),
 ]
+
+
+def found_in(document):
+    return {int(name[1:]) for name in document["maps"]["k"]["regs"]}
 
 
 def judge_refusals(node):
@@ -228,7 +232,7 @@ def try_many(asked, folder):
                     sent.until(node, True)
             shown = node.document()
         want(node.shown() == shown, "a node that was killed shows something else than its file")
-        found = {int(name[1:]) for name in shown["maps"]["k"]["regs"]}
+        found = found_in(shown)
         want(sent.done <= found, f"edits {sorted(sent.done - found)} are lost")
         want(not sent.refused & found, f"edits {sorted(sent.refused & found)} were refused, and are there")
         want({200} <= set(looks) <= {200, 503} and looks.count(503) <= 6, f"looks: {collections.Counter(looks)}")
@@ -301,8 +305,9 @@ def try_peer(asked, folder):
             until = time.monotonic() + 6
             while time.monotonic() < until:
                 sent.judge(node, node.document())
-                sent.judge(peer, peer.document())
+                want(found_in(peer.document()) <= sent.done, "a peer has heard of an edit that was refused")
                 time.sleep(0.1)
+            sent.judge(peer, peer.document())
             want("p" not in node.document()["maps"], "a full disk has taken what a peer brings")
             disk.clear(node)
             _, document = are_equal([node, peer], 90)
