@@ -6,7 +6,10 @@ import collections
 import hashlib
 import re
 
-from plain_model import GREATEST, Refused, Replica, State, longer, mark_of, refuse_if
+from plain_model import GREATEST, REGISTER, Refused, Replica, State, longer, mark_of, refuse_if
+
+# The greatest packed number.
+MOST_PACKED = 2**49 - 1
 
 # More dots than these are not held as a set here: of such a text only the decoding is compared.
 MANY = 100_000
@@ -125,6 +128,54 @@ def digest_text(digest):
 def packed(value):
     """Seven bits a byte, the lowest first."""
     return bytes([value]) if value < 128 else bytes([128 + value % 128]) + packed(value // 128)
+
+
+def packed_value(scalar):
+    """The tag of a scalar in a packed row, and what follows its keys."""
+    tag, value = scalar
+    if tag == 4:
+        return 3, packed(len(value.encode())) + value.encode()
+    if tag < 3:
+        return tag, b""
+    for tag, count in (4, value), (5, -1 - value):
+        if 0 <= count <= MOST_PACKED:
+            return tag, packed(count)
+    return 6, value.to_bytes(8, "big", signed=True)
+
+
+def packed_row_text(last, dot, entry, table):
+    path, kind, scalar = entry
+    tag, payload = packed_value(scalar)
+    step = packed(dot[1] - last[1]) if dot[0] == last[0] else bytes([0, dot[0]]) + packed(dot[1])
+    head = len(path) - 1 + 8 * (kind - REGISTER) + 16 * tag
+    return step + bytes([head]) + b"".join(packed(table[key]) for key in path) + payload
+
+
+def packed_lives_text(live, table):
+    """Live rows in few bytes: each dot is told from the one before, and each key is its packed number in a table.
+
+    >>> true, text = (2, True), lambda value: (4, value)
+    >>> packed_lives_text({}, {}).hex()
+    '00'
+
+    Three rows: a distance, a head of two keys and `true`; one of an element and -1; another replica, and a text.
+
+    >>> rows = {(0, 1): (("m", "k"), 1, true), (0, 3): (("m",), 2, (3, -1)), (2, 200): (("k", "m"), 1, text("é"))}
+    >>> packed_lives_text(rows, {"m": 0, "k": 1}).hex(" ")
+    '03 01 21 00 01 02 58 00 00 00 02 c8 01 31 01 00 02 c3 a9'
+
+    The whole numbers that are packed and that aren't, and a null whose distance takes two bytes.
+
+    >>> ints = {1: 2**49 - 1, 2: 2**49, 3: -(2**49), 4: -(2**49) - 1}
+    >>> rows = {(1, seq): (("n",), 1, (3, value)) for seq, value in ints.items()} | {(1, 300): (("n",), 1, (0, None))}
+    >>> packed_lives_text(rows, {"n": 0}).hex(" ")[:53]
+    '05 00 01 01 40 00 ff ff ff ff ff ff 7f 01 60 00 00 02'
+    >>> packed_lives_text(rows, {"n": 0}).hex(" ")[54:]
+    '00 00 00 00 00 00 01 50 00 ff ff ff ff ff ff 7f 01 60 00 ff fd ff ff ff ff ff ff a8 02 00 00'
+    """
+    rows = sorted(live.items())
+    lasts = [(0, 0)] + [dot for dot, _ in rows]
+    return packed(len(rows)) + b"".join(packed_row_text(last, *row, table) for last, row in zip(lasts, rows))
 
 
 def lives_text(lives):
@@ -337,6 +388,60 @@ class Parts(Reader):
         refuse_if(byte == 0 and place > 7, 13)
         return value
 
+    def packed_value(self, tag):
+        if tag == 3:
+            size = self.packed()
+            refuse_if(size > 1024, 13)
+            return 4, self.utf8(size)
+        if tag in (4, 5):
+            count = self.packed()
+            return 3, count if tag == 4 else -1 - count
+        if tag == 6:
+            value = int.from_bytes(self.bytes(8), "big", signed=True)
+            refuse_if(-1 - MOST_PACKED <= value <= MOST_PACKED, 13)
+            return 3, value
+        return tag, {0: None, 1: False, 2: True}[tag]
+
+    def packed_row(self, last, seen, key):
+        replica, step = last[0], self.packed()
+        seq = last[1] + step
+        if step == 0:
+            replica = self.number(1, last[0] + 1)
+            seq = self.packed()
+        refuse_if(not (1 <= seq <= GREATEST and has_seen(seen, (replica, seq))), 13)
+        head = self.number(1, 0, 111)
+        path = tuple(key() for _ in range(head % 8 + 1))
+        return (replica, seq), (path, REGISTER + head // 8 % 2, self.packed_value(head // 16))
+
+    def packed_lives(self, seen, table):
+        """Live rows as `packed_lives_text` has them, of dots that were seen, by the numbers of a table.
+
+        >>> table = Table(Parts(many(4, [piece("m"), piece("k")]), 3))
+        >>> def read(text, seen={0: (3, []), 2: (200, [(1, 199)])}):
+        ...     try:
+        ...         table.reader = Parts(bytes.fromhex(text), 3)
+        ...         return table.reader.packed_lives(seen, table)
+        ...     except Refused as refused:
+        ...         return refused.number
+        >>> read("00"), read("01 02 08 01")
+        ({}, {(0, 2): (('k',), 2, (0, None))})
+
+        What is cut, a head of no tag, a key outside the table, a whole number that could be packed, a dot that wasn't
+        seen, one of a replica that isn't above the one before, and a number with a last 0.
+
+        >>> [read(text) for text in ["01 02 08", "01 02 70 00", "01 02 00 02", "01 02 60 00" + 8 * "00"]]
+        [12, 13, 13, 13]
+        >>> [read(text) for text in ["01 04 00 00", "01 00 00 01 00 00", "01 82 00 00 00"]]
+        [13, 13, 13]
+        """
+        rows, last = {}, (0, 0)
+        count = self.packed()
+        refuse_if(count >= 2**32, 13)
+        for _ in range(count):
+            last, entry = self.packed_row(last, seen, table.packed_key)
+            rows[last] = entry
+        return rows
+
     def lives(self, size):
         """Whether each of so many dots is live."""
         if self.number(1, 0, 1):
@@ -399,7 +504,12 @@ class Table:
         self.met = set()
 
     def key(self):
-        place = self.reader.number(4)
+        return self.key_of(self.reader.number(4))
+
+    def packed_key(self):
+        return self.key_of(self.reader.packed())
+
+    def key_of(self, place):
         refuse_if(place >= len(self.keys), 13)
         if place not in self.met:
             self.met.add(place)

@@ -1,0 +1,31 @@
+//! Laws of the texts of live rows in few bytes.
+ghost use Rattle.std.specs.Prelude.{ℕ, List};
+ghost use Rattle.rds_dots.specs.Dots.{Dots};
+ghost use Rattle.rds_bytes.specs.OneText.{HasOneText};
+ghost use Rattle.rds_bytes.specs.Reading.{Reader};
+ghost use Rattle.rds_bytes.specs.Steady.{IsSteady};
+ghost use Rattle.rds_bytes.specs.Tabled.{IsShortTable, IsKeyOf, AreTabledRows};
+ghost use Rattle.rds_bytes.specs.Values.{AreDotsOf};
+ghost use Rattle.rds_packed.specs.PackedReading.{packed_key_at, packed_lives_at};
+ghost use Rattle.rds_packed.specs.PackedTexts.{packed_key_text, packed_lives_text};
+
+use rds_bytes::packed_numbers_have_one_text;
+
+/// A key of a table has one text as its packed number. Live rows of seen dots have one text over the packed numbers of
+/// a table's keys. The function does nothing: its contract is the law.
+pub fn packed_lives_have_one_text()
+    ensures key { (table : List (List ℕ)) → IsShortTable table
+        → HasOneText (packed_key_at table) (packed_key_text table) (IsKeyOf table) }
+    ensures lives { (table : List (List ℕ)) → IsShortTable table → (seen : Dots) → AreDotsOf 256 seen
+        → HasOneText (packed_lives_at (packed_key_at table) seen) (packed_lives_text (packed_key_text table))
+        (AreTabledRows table seen) }
+{
+    packed_numbers_have_one_text();
+}
+
+/// The readers of keys by their packed numbers are steady, and so are those of live rows for each steady reader of
+/// their keys. The function does nothing: its contract is the law.
+pub fn packed_lives_are_steady()
+    ensures key { (table : List (List ℕ)) → IsSteady (packed_key_at table) }
+    ensures lives { (key : Reader (List ℕ)) → IsSteady key → (seen : Dots) → IsSteady (packed_lives_at key seen) }
+{}
