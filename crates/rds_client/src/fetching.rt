@@ -44,7 +44,7 @@ fn fetch<H: Disk + Net>(
     resource: Resource,
 ) -> Result<Vec<u8>, Trouble> {
     let mut fetched = Fetched::new(rt.alloc());
-    let mut tries = 0;
+    let mut tries: u32 = 0;
     for _ in 0..u64::MAX {
         let had = fetched.bytes.len();
         let trouble = match fetched.go_on(rt, caller, resource) {
@@ -54,7 +54,7 @@ fn fetch<H: Disk + Net>(
         tries = if had < fetched.bytes.len() {
             0
         } else {
-            tries + 1
+            tries.saturating_add(1)
         };
         if fetched.bytes.is_empty() || TRIES < tries || !trouble.may_pass() {
             return Err(trouble);
