@@ -32,7 +32,8 @@ class Sent:
         if answer.status == 200 and b'"dot":["a",' in answer.body:
             self.acknowledged.add(number)
         else:
-            want(answer.status == 503 or b'"name":"Memory"' in answer.body, f"an edit is answered {answer}")
+            is_refused = answer.status in (503, 507) or b'"name":"Memory"' in answer.body
+            want(is_refused, f"an edit is answered {answer}")
             self.sent.remove(number)
 
     def judge(self, document, told):

@@ -62,7 +62,7 @@ GET /conflicts
   200 x-ndjson
 GET /status
   200 json {"group":"g","own":"a","names":["a","b"],"live":2,"dead":1,"counters":1,"components":4,..,
-    "peers":{"named":0,"met":0,"forked":0,"each":[]},"callers":{"forked":0},"behind":false}
+    "peers":{"named":0,"met":0,"forked":0,"each":[]},"callers":{"forked":0},"behind":false,"unwritable":false}
 HEAD /doc
   200 json
 HEAD /ask
@@ -235,13 +235,13 @@ def judge_heads(node):
     head = node.answer("HEAD", "/")
     want(head.headers == page.headers, f"HEAD / has {head.headers}, and GET / {page.headers}")
     due = {"rds_edits_total": 6, "rds_edits_refused_total": 5, "rds_live_entries": 2}
-    due |= {"rds_peers": 0, "rds_peers_met": 0, "rds_caller_forks_total": 0, "rds_behind": 0}
+    due |= {"rds_peers": 0, "rds_peers_met": 0, "rds_caller_forks_total": 0, "rds_behind": 0, "rds_unwritable": 0}
     for name, number in due.items():
         want(node.count(name) == number, f"{name} is {node.count(name)}, where {number} is due")
     text = node.answer("GET", "/metrics").body.decode()
     families, helped = (re.findall(rf"^{line}", text, re.M) for line in (r"# TYPE (\w+) (?:counter|gauge)$", HELPED))
     told = f"the metrics are {families}, and those that tell what they are {helped}"
-    want(len(families) == 19 and families == helped, told)
+    want(len(families) == 20 and families == helped, told)
 
 
 def judge_pipes(node):

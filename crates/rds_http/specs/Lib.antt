@@ -7,6 +7,7 @@ pub mod Lines
 pub mod Login
 pub mod Looks
 pub mod News
+pub mod Ranges
 pub mod Refusals
 pub mod Replies
 pub mod Routes

@@ -1,8 +1,9 @@
 -- What is shown of a document.
-use Rattle.std.specs.Prelude.{◌≡◌, ◌⊎◌, ℕ, ◌-◌, Bool, true, false, List, [], ◌∷◌, ◌++◌, codes, decimal, Result, Ok, Err}
+use Rattle.std.specs.Prelude.{◌≡◌, ◌⊎◌, ℕ, ◌-◌, Bool, true, false, ◌==◌, List, [], ◌∷◌, ◌++◌, codes, decimal, Result, Ok, Err}
 use Rattle.std.specs.Prelude.{length, take}
 use Rattle.std.specs.Prelude.{if◌then◌else◌, MatchResult, Option, None, Some, String, option_map, string_bytes}
 use Rattle.std.specs.Global.{Global, Vec}
+use Rattle.std.specs.List.{count_by}
 use Rattle.std.specs.Str.{is_utf8}
 use Rattle.http1.specs.Fields.{Header}
 use Rattle.http_header.specs.FieldValue.{FieldValue}
@@ -26,6 +27,7 @@ use Rattle.rds_state.specs.Fits.{ReplicaValue}
 use Rattle.rds_state.specs.Value.{StateValue}
 use Rattle.rds_store.specs.Looks.{IsValueText, RefusesPlace, here_text, text_at_path, view_text}
 use Rattle.rds_store.specs.Meetings.{MayAsk}
+use Rattle.rds_http.specs.Ranges.{TellsFile}
 use Rattle.rds_http.specs.Refusals.{TellsFault, json}
 use Rattle.rds_http.specs.Replies.{Tells, TellsTagged, tag_fields, type_field}
 use Rattle.rds_http.specs.Tags.{always, is_known, state_tag, text_tag}
@@ -37,9 +39,17 @@ use Rattle.rds_http.specs.declared.routes.Look.TheVariants.{Ask, Snapshot}
 abbrev pub lines_of_json : List ℕ
 lines_of_json = codes "application/x-ndjson"
 
--- the path that a percent-encoded place is. Bytes that are no UTF-8 are no keys.
+-- the text that a percent-encoded place is. Bytes that are no UTF-8 are no keys.
+abbrev pub place_text : List ℕ → Result (List ℕ) Fault
+place_text place = if is_utf8 (percent_decode place) then Ok (percent_decode place) else Err BadKey
+
+-- how many slashes there are
+abbrev pub slashes : List ℕ → ℕ
+slashes text = count_by (λ b. b == 47) text
+
+-- the path that it is. No key has a slash: one that is encoded parts no keys.
 abbrev pub path_in : List ℕ → Result (List ℕ) Fault
-path_in place = if is_utf8 (percent_decode place) then Ok (percent_decode place) else Err BadKey
+path_in place = place_text place >>= λ text. if slashes text == slashes place then Ok text else Err BadKey
 
 -- what has this tag is reported to a request, or no more than that it is known
 abbrev pub TellsOf : Entries FieldValue → List ℕ → List ℕ → List ℕ → Response → Type 0
@@ -100,11 +110,11 @@ peers_text peers each =
     codes ",\"peers\":{\"named\":" ++ (decimal peers.named ++ (codes ",\"met\":" ++ (decimal peers.met
     ++ (codes ",\"forked\":" ++ (decimal peers.forked ++ (codes ",\"each\":" ++ (each ++ codes "}")))))))
 
--- how many requests came of a fork, and whether the file is behind
+-- how many requests came of a fork, whether the file is behind, and whether it couldn't be written
 abbrev pub callers_text : PeerCounts → List ℕ
 callers_text peers =
     codes ",\"callers\":{\"forked\":" ++ (decimal peers.forks ++ (codes "},\"behind\":"
-    ++ (truth_text peers.is_behind ++ codes "}")))
+    ++ (truth_text peers.is_behind ++ (codes ",\"unwritable\":" ++ (truth_text peers.is_unwritable ++ codes "}")))))
 
 -- an object of JSON with these as its last members
 abbrev pub with_peers : List ℕ → PeerCounts → List ℕ → List ℕ
@@ -136,11 +146,11 @@ ShowsQuestion headers document response =
     × TellsQuestion (is_known headers (always (tag_text tag))) (tag_text tag) document response)
     ⊎ ((fault : Fault) × (MayAsk document (Err fault) ⊎ RefusesTag document fault) × TellsFault fault response)
 
--- a new file of the document is reported, or why it has none
-abbrev pub ShowsSnapshot : ReplicaValue → Response → Type 0
-ShowsSnapshot document response =
+-- a new file of the document is reported, by a tag of its own and from a byte on where that is wanted, or why it has none
+abbrev pub ShowsSnapshot : Entries FieldValue → ReplicaValue → Response → Type 0
+ShowsSnapshot headers document response =
     ((bytes : Vec ℕ) × EncodesFile document (Ok bytes)
-    × Tells 200 (codes "application/octet-stream") bytes.items response)
+    × TellsFile headers (text_tag bytes.items) (codes "application/octet-stream") bytes.items response)
     ⊎ ((fault : Fault) × EncodesFile document (Err fault) × TellsFault fault response)
 
 -- the fields of the page
@@ -166,4 +176,4 @@ AnswersLook Conflicts document place headers response =
 AnswersLook Status document place headers response = ShowsStatus document response
 AnswersLook Metrics document place headers response = response.status ≡ 200
 AnswersLook Ask document place headers response = ShowsQuestion headers document response
-AnswersLook Snapshot document place headers response = ShowsSnapshot document response
+AnswersLook Snapshot document place headers response = ShowsSnapshot headers document response

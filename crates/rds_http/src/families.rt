@@ -116,6 +116,12 @@ pub const BEHIND: Family = Family {
     help: "Whether the file is older than what its replica has sent.",
 };
 
+pub const UNWRITABLE: Family = Family {
+    name: "rds_unwritable",
+    kind: "gauge",
+    help: "Whether changes are refused, since the file couldn't be written.",
+};
+
 pub const PEER_MET: Family = Family {
     name: "rds_peer_met",
     kind: "gauge",

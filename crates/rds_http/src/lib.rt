@@ -1,8 +1,8 @@
 //! The HTTP service over a document in its file: what a request is answered, and what it changes. Read `routes` and
 //! `access` first, then `asked`, `touched` and `tracked`, which has the document in its file. Then `replies`,
 //! `refusals`, `conditions`, `reading`, `pulling`, `families`, `metrics`, `lines`, `changing`, `putting`, `login` and
-//! `live`. `site` puts them together; `meeting` has what a site asks of others, and they of it, and `news` what
-//! listeners are told.
+//! `live`, and `reopening`, for a file that couldn't be written. `site` puts them together; `meeting` has what a site
+//! asks of others, and they of it, and `news` what listeners are told.
 #![tactic(auto)]
 
 mod access;
@@ -18,8 +18,10 @@ mod metrics;
 mod news;
 mod pulling;
 mod putting;
+mod ranges;
 mod reading;
 mod refusals;
+mod reopening;
 mod replies;
 mod routes;
 mod site;
@@ -30,5 +32,5 @@ pub use access::Access;
 pub use asked::LONGEST_QUESTION;
 pub use metrics::{PeerCounts, PeerStanding};
 pub use rds_store::Lacks;
-pub use routes::is_own_change;
+pub use routes::{is_own_change, may_change};
 pub use site::Site;

@@ -5,7 +5,7 @@ ghost use Rattle.rds_http.specs.Looks.{IsJson};
 use crate::families::{
     BEHIND, CALLER_FORKS, CLIENTS, EDITS, EDITS_REFUSED, LISTENERS, LIVE_ENTRIES, PEER_COMING,
     PEER_EXCHANGE_AGE, PEER_EXCHANGES, PEER_GOING, PEER_MET, PEER_REFUSALS, PEERS, PEERS_FORKED,
-    PEERS_MET, REQUESTS, SYNCS, TAKES,
+    PEERS_MET, REQUESTS, SYNCS, TAKES, UNWRITABLE,
 };
 use crate::site::Site;
 use rds_files::Disk;
@@ -30,6 +30,8 @@ pub struct PeerCounts {
     pub forks: u64,
     /// Whether the file is known to be older than what its replica has sent.
     pub is_behind: bool,
+    /// Whether changes are refused, since the file couldn't be written.
+    pub is_unwritable: bool,
 }
 
 /// How another node stands.
@@ -54,6 +56,8 @@ pub struct PeerStanding {
 pub struct Metrics {
     /// Edits that were done.
     pub edits: u64,
+    /// How many of them are kept.
+    kept: u64,
     /// Edits that were refused.
     pub refused: u64,
     /// Answers of other replicas that were taken.
@@ -77,6 +81,7 @@ impl Metrics {
     pub fn new() -> Metrics {
         Metrics {
             edits: 0,
+            kept: 0,
             refused: 0,
             takes: 0,
             syncs: 0,
@@ -91,6 +96,7 @@ impl Metrics {
                 exchanges: 0,
                 forks: 0,
                 is_behind: false,
+                is_unwritable: false,
             },
             standings: None,
         }
@@ -120,12 +126,21 @@ impl Metrics {
     /// Counts one more time that what had changed was kept.
     pub fn note_sync(&mut self) {
         self.syncs = self.syncs.saturating_add(1);
+        self.kept = self.edits;
+    }
+
+    /// Counts the edits that were done since the last such time as refused: they couldn't be kept.
+    pub fn note_loss(&mut self) {
+        let lost = self.edits.saturating_sub(self.kept);
+        self.edits = self.kept;
+        self.refused = self.refused.saturating_add(lost);
     }
 
     /// The lines of the Prometheus text format, version 0.0.4. So many entries are live.
     pub fn text(&self, alloc: Global, live: usize) -> Result<String, AllocError> {
         let Metrics {
             edits,
+            kept: _,
             refused,
             takes,
             syncs,
@@ -209,6 +224,7 @@ fn push_peers(text: &mut String, peers: PeerCounts) -> Result<(), AllocError> {
         exchanges,
         forks,
         is_behind,
+        is_unwritable,
     } = peers;
     PEERS.push(text, named as u64)?;
     PEERS_MET.push(text, met as u64)?;
@@ -216,7 +232,8 @@ fn push_peers(text: &mut String, peers: PeerCounts) -> Result<(), AllocError> {
     PEER_REFUSALS.push(text, refused)?;
     PEER_EXCHANGES.push(text, exchanges)?;
     CALLER_FORKS.push(text, forks)?;
-    BEHIND.push(text, u64::from(is_behind))
+    BEHIND.push(text, u64::from(is_behind))?;
+    UNWRITABLE.push(text, u64::from(is_unwritable))
 }
 
 /// Adds the lines of each of the other nodes, whose names have no quotes: whether it was met when it was called last, how

@@ -25,6 +25,8 @@ ghost use Rattle.rds_http.specs.Looks.{
   own_field,
   page_fields,
   path_in,
+  place_text,
+  slashes,
   told_in,
   with_peers,
 };
@@ -34,6 +36,7 @@ ghost use Rattle.rds_http.specs.Tags.{text_tag};
 
 use crate::conditions::{Seen, document_tag, seen_of, text_tag};
 use crate::metrics::{Metrics, PeerCounts};
+use crate::ranges::fill_file;
 use crate::refusals::refuse;
 use crate::replies::{BYTES, JSON, LINES, add_field, fill, fill_tagged, tell_known};
 use crate::routes::Look;
@@ -77,7 +80,7 @@ pub fn look<H: Disk>(
         Look::Status => show_status(alloc, file.document(), metrics, response),
         Look::Metrics => show_metrics(alloc, file.document(), metrics, response),
         Look::Ask => show_question(alloc, file, headers, response),
-        Look::Snapshot => show_snapshot(alloc, file.document(), response),
+        Look::Snapshot => show_snapshot(alloc, file.document(), headers, response),
     }
 }
 
@@ -156,17 +159,18 @@ fn add_own(alloc: Global, document: &Document, response: &mut Response) -> Resul
     response.add_header(HeaderName::from_static("rds-replica"), value)
 }
 
-/// Answers with the document's snapshot.
+/// Answers with the document's snapshot, or with the rest of it.
 fn show_snapshot(
     alloc: Global,
     document: &Document,
+    headers: &HeaderMap<HeaderValue>,
     response: &mut Response,
 ) -> Result<(), AllocError>
     requires { IsBlank response.old }
-    ensures { OnOk result (ShowsSnapshot document.now response.new) }
+    ensures { OnOk result (ShowsSnapshot headers.now document.now response.new) }
 {
     match document.snapshot() {
-        Ok(bytes) => fill(response, StatusCode::OK, BYTES, bytes),
+        Ok(bytes) => fill_file(alloc, headers, BYTES, bytes, response),
         Err(fault) => refuse(alloc, fault, response),
     }
 }
@@ -351,10 +355,30 @@ fn known_path(alloc: Global, path: &str) -> Result<Option<String>, Fault>
     Ok(None)
 }
 
-/// The path that a percent-encoded place is. Bytes that are no UTF-8 are no keys.
+/// The path that a percent-encoded place is. Bytes that are no UTF-8 are no keys, and no key has a slash: one that is
+/// encoded is refused, since it would part keys (`BadKey`).
 pub fn path_in(alloc: Global, place: &[u8]) -> Result<String, Fault>
     ensures { MatchResult result (λ path. path_in place.now ≡ Ok (string_bytes path))
         (λ fault. (fault ≡ Memory) ⊎ (path_in place.now ≡ Err fault)) }
+{
+    let path = place_text(alloc, place)?;
+    if slashes(path.as_bytes()) != slashes(place) {
+        return Err(Fault::BadKey);
+    }
+    Ok(path)
+}
+
+/// How many slashes there are.
+fn slashes(text: &[u8]) -> usize
+    ensures { result ≡ slashes text.now }
+{
+    text.iter().filter(|b| **b == b'/').count()
+}
+
+/// The text that a percent-encoded place is. Bytes that are no UTF-8 are no keys.
+fn place_text(alloc: Global, place: &[u8]) -> Result<String, Fault>
+    ensures { MatchResult result (λ text. place_text place.now ≡ Ok (string_bytes text))
+        (λ fault. (fault ≡ Memory) ⊎ (place_text place.now ≡ Err fault)) }
 {
     match percent_decode(place).decode_utf8(alloc) {
         Ok(path) => Ok(path.into_owned(alloc)?),
@@ -409,12 +433,15 @@ fn with_peers(alloc: Global, object: String, metrics: &Metrics) -> Result<Vec<u8
         exchanges: _,
         forks,
         is_behind,
+        is_unwritable,
     } = metrics.peers;
     let each = metrics.standings_json(alloc)?;
     let told = format!(in alloc;
         ",\"peers\":{{\"named\":{named},\"met\":{met},\"forked\":{forked},\"each\":{each}}}"
     )?;
-    let shown = format!(in alloc; ",\"callers\":{{\"forked\":{forks}}},\"behind\":{is_behind}}}")?;
+    let shown = format!(in alloc;
+        ",\"callers\":{{\"forked\":{forks}}},\"behind\":{is_behind},\"unwritable\":{is_unwritable}}}"
+    )?;
     let mut bytes = object.into_bytes();
     bytes.truncate(bytes.len().saturating_sub(1));
     bytes.extend_from_slice(told.as_bytes())?;

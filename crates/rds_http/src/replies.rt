@@ -64,7 +64,7 @@ pub fn tell_known(response: &mut Response, tag: String) -> Result<(), AllocError
 }
 
 /// Adds the fields of what has this tag.
-fn add_tag(response: &mut Response, tag: String) -> Result<(), AllocError>
+pub fn add_tag(response: &mut Response, tag: String) -> Result<(), AllocError>
     ensures fields { OnOk result (fields_of response.new ≡ fields_of response.old ++ tag_fields (string_bytes tag)) }
     ensures status { response.new.status ≡ response.old.status }
     ensures body { response.new.body ≡ response.old.body }

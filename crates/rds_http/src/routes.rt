@@ -1,6 +1,7 @@
 //! What a request asks for, by its method and its path.
 ghost use Rattle.std.specs.Prelude.{◌≡◌, ◌≤◌, length};
 ghost use Rattle.std.specs.List.{prefix_len};
+ghost use Rattle.rds_http.specs.Answers.{may_change};
 ghost use Rattle.rds_http.specs.Routes.{
   asked_of,
   asked_with,
@@ -128,6 +129,18 @@ pub fn is_own_change(method: &[u8], path: &[u8]) -> bool
     matches!(
         route.asked,
         Asked::Post(Post::Edits | Post::Grow) | Asked::Change(_)
+    )
+}
+
+/// Whether a request of this method and this path may change the document: it is to edit it or to put a name in its
+/// roster, or it brings what another replica has.
+pub fn may_change(method: &[u8], path: &[u8]) -> bool
+    ensures { result ≡ may_change (asked_of method.now path.now) }
+{
+    let route = route_of(method, path);
+    matches!(
+        route.asked,
+        Asked::Post(Post::Edits | Post::Grow | Post::Take | Post::Push) | Asked::Change(_)
     )
 }
 

@@ -1,8 +1,11 @@
 //! A site: a document in its file, who may come, and what is counted.
-ghost use Rattle.std.specs.Prelude.{◌≡◌, ◌≢◌, false, IfErr, IfOk, OnErr, OnOk};
+ghost use Rattle.std.specs.Prelude.{◌≡◌, ◌≢◌, ◌⊎◌, false, IfErr, IfOk, OnErr, OnOk};
 ghost use Rattle.http.specs.Request.{body_of};
 ghost use Rattle.http_server.specs.Response.{IsBlank};
-ghost use Rattle.rds_files.specs.Files.{IsUnkept};
+ghost use Rattle.rds_files.specs.Files.{IsHeldAt, IsUnkept, RefusesLock};
+ghost use Rattle.rds_names.specs.Roster.{Begins};
+ghost use Rattle.rds_names.specs.declared.fault.Fault.TheVariants.{Memory};
+ghost use Rattle.rds_state.specs.Mark.{mark_of};
 ghost use Rattle.rds_http.specs.Answers.{
   Does,
   DoesChange,
@@ -28,6 +31,7 @@ use crate::pulling::pull;
 use crate::putting::put;
 use crate::reading::{answer, look, value_at};
 use crate::refusals::{deny, refuse, refuse_method, refuse_unknown, refuse_unmet, refuse_unmet_at};
+use crate::reopening::open_same;
 use crate::routes::{Asked, Change, Post, Route, route_of};
 use crate::tracked::Tracked;
 use bytes::Bytes;
@@ -37,6 +41,7 @@ use http_server::{Response, Service};
 use rds_files::{Disk, LockFile};
 use rds_json::LineReader;
 use rds_names::Fault;
+use rds_state::Mark;
 use rds_store::DocumentFile;
 use std::alloc::{AllocError, Global};
 use std::marker::Model;
@@ -142,6 +147,57 @@ where
             self.metrics.note_sync();
         }
         Ok(())
+    }
+
+    /// The same site over its file, which is let go, and then locked and read anew: what wasn't kept is gone. Edits of
+    /// that were refused, as far as is counted. Refuses as [`DocumentFile::open`] does. `Device` also where the file
+    /// holds another document than the one of this mark, or of another replica: others may have had it meanwhile.
+    pub fn reopen(self, rt: &H, path: &'a str, kept: Mark) -> Result<Site<'a, H>, Fault>
+        ensures held { IfOk result (λ site. IsHeldAt path.now (record { path = site.path; kept = site.kept })) }
+        ensures document { IfOk result (λ site. site.document ≡ site.kept) }
+        ensures unchanged { IfOk result (λ site. site.has_changed ≡ false) }
+        ensures mark { IfOk result (λ site. mark_of site.kept.state ≡ kept) }
+        ensures own { IfOk result (λ site. site.kept.own ≡ self.entry.document.own) }
+        ensures roster { IfOk result (λ site. Begins site.kept.roster self.entry.document.roster) }
+        ensures turn { IfOk result (λ site. site.turn ≡ self.entry.turn) }
+        ensures news { IfOk result (λ site. site.has_news ≡ self.entry.has_news) }
+        ensures access { IfOk result (λ site. site.access ≡ self.entry.access) }
+        ensures fault { IfErr result (λ fault. (fault ≡ Memory) ⊎ RefusesLock path.now fault) }
+    {
+        let Site {
+            alloc,
+            held,
+            reader,
+            access,
+            turn,
+            has_news,
+            mut metrics,
+        } = self;
+        let was = held.file.document().replica();
+        let own = was.own();
+        let roster = was.roster().copy(alloc)?;
+        drop(held);
+        let file = open_same(rt, path, kept, own, &roster)?;
+        metrics.note_loss();
+        Ok(Site {
+            alloc,
+            held: Held {
+                file: Tracked::new(alloc, file),
+                has_changed: false,
+            },
+            reader,
+            access,
+            turn,
+            has_news,
+            metrics,
+        })
+    }
+
+    /// The mark of the document. It takes no time.
+    pub fn mark(&self) -> Mark
+        ensures { result ≡ mark_of self.now.document.state }
+    {
+        self.held.file.document().mark()
     }
 
     /// How many times what had changed was kept. A full count stays.

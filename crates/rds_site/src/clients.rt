@@ -3,6 +3,8 @@ use crate::committed::Committed;
 use crate::listeners::Listener;
 use crate::patience::Wait;
 use crate::sockets::{Heard, Sent, Socket};
+use crate::stalls::parting;
+use bytes::BytesMut;
 use http_server::{Connection, Service, State};
 use rds_files::Disk;
 use std::alloc::Global;
@@ -29,6 +31,8 @@ enum Talk {
     Http(Connection),
     /// It is told of changes.
     Live(Listener),
+    /// It is sent this last answer.
+    Parting(BytesMut),
     /// It got its last answer. What it still sends is dropped, so that the answer isn't lost with the connection.
     Last,
 }
@@ -114,6 +118,9 @@ pub struct Client {
     heard: Heard,
     load: Load,
     is_listed: bool,
+    // Where it was answered in this turn what isn't so unless the turn is kept: whether the first of these requests may
+    // change the document.
+    unsure: Option<bool>,
     // Whether it is heard only once those rest no more that made others wait.
     is_resting: bool,
 }
@@ -141,6 +148,7 @@ impl Client {
                 is_answered: false,
             },
             is_listed: false,
+            unsure: None,
             is_resting: false,
         }
     }
@@ -182,7 +190,7 @@ impl Client {
                 connection.wants_write() || self.load.is_answered && is_begun
             }
             Talk::Live(_) => return None,
-            Talk::Last => false,
+            Talk::Parting(_) | Talk::Last => false,
         };
         if is_busy {
             Some(Stage::Busy)
@@ -198,7 +206,7 @@ impl Client {
         let is_quiet = QUIET <= now.duration_since(self.wait.since()).as_secs();
         match &mut self.talk {
             Talk::Live(listener) => is_quiet && listener.ping(),
-            Talk::Http(_) | Talk::Last => false,
+            Talk::Http(_) | Talk::Parting(_) | Talk::Last => false,
         }
     }
 
@@ -244,24 +252,26 @@ impl Client {
     pub fn room(&self) -> usize {
         match &self.talk {
             Talk::Http(_) => self.load.most,
-            Talk::Live(_) | Talk::Last => 0,
+            Talk::Live(_) | Talk::Parting(_) | Talk::Last => 0,
         }
     }
 
     /// Reads what the client says, up to a limit, and until something is due to it. The service answers its requests,
-    /// in memory.
+    /// in memory. What was answered in an earlier turn is sent before another request is answered, so that all that is
+    /// due to it is of one turn.
     pub fn hear<S: Service>(&mut self, service: &mut S) {
         if self.heard == Heard::Gone {
             return;
         }
         self.heard = match &mut self.talk {
             Talk::Http(connection) => {
-                if self.heard == Heard::Part {
+                if self.heard == Heard::Part && !connection.wants_write() {
                     connection.advance(service);
                 }
                 hear_requests(&mut self.socket, connection, service, &mut self.load)
             }
             Talk::Live(listener) => listener.hear(&mut self.socket),
+            Talk::Parting(_) => Heard::Part,
             Talk::Last => hear_out(&mut self.socket),
         };
     }
@@ -274,6 +284,24 @@ impl Client {
         }
         if self.load.has_enough() {
             self.wait.renew(now);
+        }
+    }
+
+    /// Notes that it was answered in this turn what isn't so unless the turn is kept: requests of which the first may
+    /// change the document, or not.
+    pub fn note_unsure(&mut self, is_change: bool) {
+        self.unsure = Some(is_change);
+    }
+
+    /// The turn wasn't kept: where it was answered what isn't so, it is sent another answer, by which it may try again
+    /// after so many seconds, and none after that.
+    pub fn refuse(&mut self, alloc: Global, seconds: u64) {
+        let Some(is_change) = self.unsure.take() else {
+            return;
+        };
+        match parting(alloc, is_change, seconds) {
+            Ok(text) => self.talk = Talk::Parting(text),
+            Err(_) => self.give_up(),
         }
     }
 
@@ -293,6 +321,7 @@ impl Client {
         committed: &Committed<'_, '_, H>,
         now: Instant,
     ) -> Next {
+        self.unsure = None;
         if self.heard == Heard::Gone {
             return Next::Never;
         }
@@ -343,6 +372,7 @@ impl Client {
         match &self.talk {
             Talk::Http(connection) => connection.wants_write(),
             Talk::Live(listener) => listener.wants_write(),
+            Talk::Parting(text) => !text.is_empty(),
             Talk::Last => false,
         }
     }
@@ -351,6 +381,7 @@ impl Client {
         match &mut self.talk {
             Talk::Http(connection) => self.socket.send(committed, connection),
             Talk::Live(listener) => listener.send(committed, &mut self.socket),
+            Talk::Parting(text) => self.socket.send_bytes(committed, text),
             Talk::Last => Ok(0),
         }
     }
@@ -360,12 +391,14 @@ impl Client {
         let is_done = match &self.talk {
             Talk::Http(connection) => connection.is_done(),
             Talk::Live(listener) => listener.is_done(),
+            Talk::Parting(text) => text.is_empty(),
             Talk::Last => false,
         };
         if is_done {
             match mem::replace(&mut self.talk, Talk::Last) {
                 Talk::Http(connection) => self.leave_http(alloc, connection),
                 Talk::Live(_listener) => self.socket.end(),
+                Talk::Parting(_text) => self.socket.end(),
                 Talk::Last => (),
             }
         }

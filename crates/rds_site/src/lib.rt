@@ -1,7 +1,7 @@
 //! The loop of a node: a site that runs. One process and one thread hold a document in its file, and serve it over
-//! HTTP, and meet other nodes over theirs. Read `words`, `addresses`; then `committed`, `reserve`, `behind`, `forks`,
-//! `logging`, `sockets`, `listeners`, `schedule`, `patience`, `clients`, `table`; then `channels`, `levels`,
-//! `exchanges`, `peers`, `peer_table`; then `arrivals`, `turns`, `running`.
+//! HTTP, and meet other nodes over theirs. Read `words`, `addresses`; then `committed`, `reserve`, `schedule`,
+//! `behind`, `stalls`, `forks`, `logging`, `sockets`, `listeners`, `patience`, `clients`, `table`; then `channels`,
+//! `levels`, `exchanges`, `peers`, `peer_table`; then `arrivals`, `turns`, `running`.
 #![tactic(auto)]
 
 mod addresses;
@@ -22,6 +22,7 @@ mod reserve;
 mod running;
 mod schedule;
 mod sockets;
+mod stalls;
 mod table;
 mod turns;
 mod words;

@@ -1,15 +1,20 @@
 //! The log of requests: a line for each on standard output, where that is wished.
-ghost use Rattle.std.specs.Prelude.{◌≡◌, ◌&&◌, IsTrue, OnErr, OnOk};
+ghost use Rattle.std.specs.Prelude.{◌≡◌, ◌&&◌, IfOk, IsTrue, OnErr, OnOk};
+ghost use Rattle.rds_state.specs.Mark.{mark_of};
 ghost use Rattle.http_server.specs.Response.{IsBlank};
-ghost use Rattle.rds_site.specs.Behind.{AnswersOrRefuses, is_edit};
+ghost use Rattle.rds_site.specs.Behind.{is_edit};
+ghost use Rattle.rds_site.specs.Stalls.{AnswersOrRefuses, stall_of};
 
 use crate::behind::{is_edit, refuse_edit, shows_behind};
 use crate::forks::{is_told_question, names_fork};
+use crate::stalls::{check_held, is_change, refuse_change};
 use bytes::Bytes;
 use http::{Method, Request};
 use http_server::{Response, Service};
 use rds_files::{Disk, LockFile};
 use rds_http::Site;
+use rds_names::Fault;
+use rds_state::Mark;
 use std::alloc::{AllocError, Global};
 use std::net::SocketAddr;
 use std::time::Duration;
@@ -25,6 +30,8 @@ const PART: usize = 2;
 pub struct Log {
     alloc: Global,
     lines: Vec<String>,
+    // How many of them stay where what changed in the turn can't be kept.
+    fixed: usize,
 }
 
 impl Log {
@@ -33,14 +40,29 @@ impl Log {
         Log {
             alloc,
             lines: Vec::new(alloc),
+            fixed: 0,
         }
     }
 
-    // Notes a request of a client, and what it is answered.
-    fn note(&mut self, client: SocketAddr, request: &Request<Bytes>, response: &Response) {
+    // Notes a request of a client, and what it is answered. That may be replaced, where something has changed by then.
+    fn note(
+        &mut self,
+        client: SocketAddr,
+        request: &Request<Bytes>,
+        response: &Response,
+        has_changed: bool,
+    ) {
         if let Ok(line) = line_of(self.alloc, client, request, response) {
             let _ = self.lines.push(line);
         }
+        if !has_changed {
+            self.fixed = self.lines.len();
+        }
+    }
+
+    // Drops the lines of answers that were replaced.
+    fn cut(&mut self) {
+        self.lines.truncate(self.fixed);
     }
 
     /// Writes the lines of a turn that took so long, and begins anew. Whether they can be written changes nothing.
@@ -52,12 +74,14 @@ impl Log {
             let _ = print!(rt; "{text}");
         }
         self.lines.clear();
+        self.fixed = 0;
     }
 }
 
 /// A site, and the log of what it is asked, where one is kept. Once its file is known to be older than what its replica
-/// has sent, edits are refused.
+/// has sent, edits are refused; and changes are while the file can't be written.
 pub struct LoggedSite<'a, H: Disk> {
+    pub alloc: Global,
     /// The path of its file.
     pub file: &'a str,
     pub site: Site<'a, H>,
@@ -68,17 +92,28 @@ pub struct LoggedSite<'a, H: Disk> {
     pub forks: u64,
     /// Whether the file is known to be older than what its replica has sent.
     pub is_behind: bool,
+    /// After how many seconds a change may be tried again, where changes are refused now.
+    pub stalled: Option<u64>,
+    /// Whether one change is tried, since the file couldn't be written.
+    pub is_trying: bool,
+    /// Whether the first request that the client was answered in this turn may change the document, where there was
+    /// one.
+    pub answered: Option<bool>,
 }
 
 impl<H: Disk> Drop for LoggedSite<'_, H> {
     fn drop(self) {
         let LoggedSite {
+            alloc: _,
             file: _,
             site: _site,
             log: _log,
             client: _,
             forks: _,
             is_behind: _,
+            stalled: _,
+            is_trying: _,
+            answered: _,
         } = self;
     }
 }
@@ -88,11 +123,12 @@ where
     H::File: LockFile,
 {
     ghost use Rattle.std.specs.Prelude.{◌&&◌, IsTrue};
-    ghost use Rattle.rds_site.specs.Behind.{AnswersOrRefuses, is_edit};
+    ghost use Rattle.rds_site.specs.Behind.{is_edit};
+    ghost use Rattle.rds_site.specs.Stalls.{AnswersOrRefuses, stall_of};
 
     ghost answers = { λ old request response new.
-        AnswersOrRefuses (old.is_behind && is_edit request) old.site request response new.site
-        × (IsTrue old.is_behind → IsTrue new.is_behind) };
+        AnswersOrRefuses (old.is_behind && is_edit request) (stall_of old.stalled request) old.site request response
+        new.site × (IsTrue old.is_behind → IsTrue new.is_behind) };
 
     fn call(
         &mut self,
@@ -100,8 +136,12 @@ where
         response: &mut Response,
     ) -> Result<(), AllocError> {
         self.answer(request, response)?;
+        if self.answered.is_none() {
+            self.answered = Some(is_change(request));
+        }
+        let has_changed = self.site.has_changed();
         if let Some(log) = &mut self.log {
-            log.note(self.client, request, response);
+            log.note(self.client, request, response, has_changed);
         }
         Ok(())
     }
@@ -119,8 +159,8 @@ where
     ) -> Result<(), AllocError>
         requires { IsBlank response.old }
         ensures answered { OnOk result
-            (AnswersOrRefuses (self.old.is_behind && is_edit request.now) self.old.site request.now response.new
-            self.new.site) }
+            (AnswersOrRefuses (self.old.is_behind && is_edit request.now) (stall_of self.old.stalled request.now)
+            self.old.site request.now response.new self.new.site) }
         ensures behind { IsTrue self.old.is_behind → IsTrue self.new.is_behind }
         ensures err { OnErr result (self.new ≡ self.old) }
     {
@@ -128,10 +168,24 @@ where
         if self.is_behind && is_edit {
             return refuse_edit(response);
         }
+        if let Some(seconds) = self.stall(request) {
+            return refuse_change(self.alloc, seconds, response);
+        }
         self.site.call(request, response)?;
         self.is_behind |= shows_behind(request, response);
         self.note_fork(request, response);
         Ok(())
+    }
+
+    // After how many seconds a request may be tried again, where it is refused now.
+    fn stall(&self, request: &Request<Bytes>) -> Option<u64>
+        ensures { result ≡ stall_of self.now.stalled request.now }
+    {
+        if is_change(request) {
+            self.stalled
+        } else {
+            None
+        }
     }
 
     // Counts a request that came of a fork.
@@ -147,6 +201,49 @@ where
                 self.forks = self.forks.saturating_add(1);
             }
         }
+    }
+}
+
+impl<'a, H: Disk> LoggedSite<'a, H>
+where
+    H::File: LockFile,
+{
+    /// The same over its file, which is read anew, where what had changed couldn't be kept: what it holds has to have
+    /// this mark. Refuses as [`Site::reopen`] does, and `Device` where another file stands at the path by now.
+    pub fn reopen(self, rt: &H, kept: Mark) -> Result<LoggedSite<'a, H>, Fault>
+        ensures behind { IfOk result (λ logged. logged.is_behind ≡ self.entry.is_behind) }
+        ensures kept { IfOk result (λ logged. logged.site.document ≡ logged.site.kept) }
+        ensures mark { IfOk result (λ logged. mark_of logged.site.kept.state ≡ kept) }
+    {
+        let LoggedSite {
+            alloc,
+            file,
+            site,
+            mut log,
+            client,
+            forks,
+            is_behind,
+            stalled,
+            is_trying,
+            answered,
+        } = self;
+        check_held(rt, file)?;
+        let site = site.reopen(rt, file, kept)?;
+        if let Some(log) = &mut log {
+            log.cut();
+        }
+        Ok(LoggedSite {
+            alloc,
+            file,
+            site,
+            log,
+            client,
+            forks,
+            is_behind,
+            stalled,
+            is_trying,
+            answered,
+        })
     }
 }
 

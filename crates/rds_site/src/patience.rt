@@ -1,15 +1,10 @@
 //! How long who is at the other end of a connection is waited for.
 use crate::schedule::after;
+use rds_client::more_seconds;
 use std::time::{Duration, Instant};
 
 /// Within so many seconds a byte of what is sent has to go, and of what is awaited enough has to come.
 const PATIENCE: u64 = 30;
-
-/// What the system has taken may still be on its way: so many bytes of it give a second more.
-const SLOWEST: u64 = 16_384;
-
-/// There are so many seconds more at most.
-const MOST_MORE: u64 = 270;
 
 /// Since when the other end lets wait, and how many bytes the system has taken for it since it was heard.
 #[derive(Clone, Copy, Debug)]
@@ -50,7 +45,7 @@ impl Wait {
 
     /// How many seconds it may let wait.
     pub fn seconds(&self) -> u64 {
-        PATIENCE.saturating_add((self.taken / SLOWEST).min(MOST_MORE))
+        PATIENCE.saturating_add(more_seconds(self.taken))
     }
 
     /// Until when it may.

@@ -47,8 +47,9 @@ impl<'a> Peers<'a> {
         })
     }
 
-    /// What was counted, beside how many requests came of a fork, and whether the file is behind.
-    pub fn counts(&self, forks: u64, is_behind: bool) -> PeerCounts {
+    /// What was counted, beside how many requests came of a fork, whether the file is behind, and whether it couldn't
+    /// be written.
+    pub fn counts(&self, forks: u64, is_behind: bool, is_unwritable: bool) -> PeerCounts {
         PeerCounts {
             named: self.table.len(),
             met: self.count_of(Standing::Met),
@@ -57,6 +58,7 @@ impl<'a> Peers<'a> {
             exchanges: self.exchanges,
             forks,
             is_behind,
+            is_unwritable,
         }
     }
 
@@ -106,6 +108,13 @@ impl<'a> Peers<'a> {
     pub fn note_change(&mut self, now: Instant) {
         for peer in self.table.as_mut_slice() {
             peer.note_change(now);
+        }
+    }
+
+    /// Lets all connections go, and begins again at this instant: what was said over them may not be kept.
+    pub fn put_off(&mut self, until: Instant) {
+        for peer in self.table.as_mut_slice() {
+            peer.put_off(until);
         }
     }
 

@@ -117,6 +117,12 @@ impl<'a> Peer<'a> {
         self.schedule.note_change(now);
     }
 
+    /// Lets the connection go, since what was said over it may not be kept, and begins again at this instant.
+    pub fn put_off(&mut self, until: Instant) {
+        self.leave();
+        self.schedule.put_off(until);
+    }
+
     /// How much has come of a response that isn't whole, in bytes.
     pub fn room(&self) -> usize {
         match &self.link {

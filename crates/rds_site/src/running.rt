@@ -40,6 +40,10 @@ use std::time::Instant;
 /// none to begin. Standard error has a line once the site serves, and one that says why it ended, but where memory
 /// lacked. What a client or a peer does wrong ends its connection alone.
 ///
+/// Where what changed can't be written, as where the disk is full, it goes on with what the file has: looks are
+/// answered, and changes are refused (507, as the fault `Device`) until one that is tried is written. Standard error has
+/// a line where that begins and ends. A sync that fails ends the site, and so does a file that isn't as it was kept.
+///
 /// Where a meeting shows that the file is older than what its replica has sent, edits are refused from then on (409, as
 /// the fault `OwnAhead`), and standard error says so: each would fork the replica.
 ///
@@ -55,7 +59,8 @@ use std::time::Instant;
 /// Where the words ask for a log, standard output has a line for each request that the site was asked: the client's
 /// address, the method, the target, the status, how many bytes the answer's body has, and how many microseconds passed
 /// from when the turn began until its changes were kept. Of the method and the target it has 200 bytes each at most. It
-/// is written once the answer was sent, and where it can't be the site goes on. What is no request of HTTP has no line.
+/// is written once the answer was sent, and where it can't be the site goes on. What is no request of HTTP has no line,
+/// nor has one whose answer was replaced.
 ///
 /// There are at most 64 peers. One that can't be found or met, that refuses, or that brings what is refused is tried
 /// again after 1, 2, 4, and then each 8 seconds. Its name is looked up again where no connection could be made.
@@ -73,8 +78,13 @@ where
     };
     let _note = note_holder(rt, words.file, &turns);
     for _ in 0..u64::MAX {
-        if let Err(fault) = turns.turn(rt) {
-            return fault;
+        match turns.turn(rt) {
+            Ok(true) => (),
+            Ok(false) => match turns.reopen(rt) {
+                Ok(again) => turns = again,
+                Err(fault) => return fault,
+            },
+            Err(fault) => return fault,
         }
     }
     Fault::Device
@@ -106,12 +116,16 @@ where
     let address = door.address().unwrap_or(address);
     let access = Access::new(address, token, words.is_open);
     let logged = LoggedSite {
+        alloc: rt.alloc(),
         file: words.file,
         site: Site::new(rt.alloc(), file, access),
         log: log_of(rt.alloc(), words.log),
         client: address,
         forks: 0,
         is_behind: false,
+        stalled: None,
+        is_trying: false,
+        answered: None,
     };
     let _ = eprintln!(rt; "listening on http://{address}/");
     Ok(Turns::new(logged, door, clients, peers, reserve, now))

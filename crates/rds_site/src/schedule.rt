@@ -81,6 +81,13 @@ impl Schedule {
         self.due = now;
     }
 
+    /// What came of the exchange under way is lost: the next is due at this instant, and not before.
+    pub fn put_off(&mut self, until: Instant) {
+        self.due = until;
+        self.earliest = self.earliest.max(until);
+        self.spent = Duration::ZERO;
+    }
+
     /// The exchange under way took so much more time here.
     pub fn spend(&mut self, time: Duration) {
         self.spent = self.spent.saturating_add(time);

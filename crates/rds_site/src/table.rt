@@ -146,7 +146,8 @@ impl Clients {
     }
 
     /// Hears those that have a turn, from now on. One that takes more room than is left for requests is let go. One that
-    /// made others wait is put off while the rest lasts.
+    /// made others wait is put off while the rest lasts. Where one change is tried, all behind it are put off, so that
+    /// no other answer depends on it.
     pub fn hear<H: Disk>(&mut self, rt: &H, site: &mut LoggedSite<'_, H>, now: Instant)
     where
         H::File: LockFile,
@@ -154,7 +155,8 @@ impl Clients {
         let mut began = now;
         for at in 0..self.due.len() {
             if let Some(key) = self.due.get(at).copied() {
-                if self.is_to_rest(key, began) {
+                let is_to_wait = site.is_trying && site.site.has_changed();
+                if self.is_to_rest(key, is_to_wait, began) {
                     continue;
                 }
                 self.hear_from(key, site);
@@ -165,12 +167,12 @@ impl Clients {
         }
     }
 
-    // Puts a client off where it made others wait, and the rest lasts.
-    fn is_to_rest(&mut self, key: usize, now: Instant) -> bool {
+    // Puts a client off where it made others wait, and the rest lasts; or where it is to wait in any case.
+    fn is_to_rest(&mut self, key: usize, is_to_wait: bool, now: Instant) -> bool {
         let Some(client) = self.table.get_mut(key) else {
             return true;
         };
-        let is_to_rest = client.is_slow() && !self.rest.left(now).is_zero();
+        let is_to_rest = is_to_wait || client.is_slow() && !self.rest.left(now).is_zero();
         if is_to_rest {
             client.put_off();
         }
@@ -199,7 +201,13 @@ impl Clients {
         };
         let had = client.room();
         site.client = client.address();
+        site.answered = None;
         client.hear(site);
+        if site.site.has_changed() {
+            if let Some(is_change) = site.answered {
+                client.note_unsure(is_change);
+            }
+        }
         let has = client.room();
         self.room = changed(self.room, had, has);
         if MOST_ROOM < self.room && had < has {
@@ -230,6 +238,25 @@ impl Clients {
             }
         }
         self.due.clear();
+    }
+
+    /// The turn wasn't kept: those that were answered in it what isn't so are sent another answer, by which they may
+    /// try again after so many seconds, and none after that.
+    pub fn refuse(&mut self, seconds: u64) {
+        for at in 0..self.due.len() {
+            if let Some(key) = self.due.get(at).copied() {
+                self.refuse_to(key, seconds);
+            }
+        }
+    }
+
+    fn refuse_to(&mut self, key: usize, seconds: u64) {
+        let Some(client) = self.table.get_mut(key) else {
+            return;
+        };
+        let had = client.room();
+        client.refuse(self.alloc, seconds);
+        self.room = changed(self.room, had, client.room());
     }
 
     fn send_to<H: Disk>(&mut self, committed: &Committed<'_, '_, H>, key: usize, now: Instant) {

@@ -7,10 +7,12 @@ use crate::committed::{Committed, commit};
 use crate::logging::LoggedSite;
 use crate::peer_table::Peers;
 use crate::reserve::Reserve;
+use crate::stalls::{Stall, tell_begin, tell_end};
 use crate::table::Clients;
 use rds_client::Trouble;
 use rds_files::{Disk, LockFile};
 use rds_names::Fault;
+use rds_state::Mark;
 use std::io;
 use std::net::{Net, SocketAddr};
 use std::time::Instant;
@@ -25,6 +27,10 @@ pub struct Turns<'a, H: Disk> {
     clients: Clients,
     peers: Peers<'a>,
     reserve: Reserve<H>,
+    // While the file can't be written.
+    stall: Option<Stall>,
+    // The mark of what was kept last.
+    kept: Mark,
     // The time, when it was last looked at, when clients were last looked at for being overdue, and when it was last
     // noted how peers stand.
     now: Instant,
@@ -40,6 +46,8 @@ impl<H: Disk> Drop for Turns<'_, H> {
             clients: _clients,
             peers: _peers,
             reserve: _reserve,
+            stall: _,
+            kept: _,
             now: _,
             swept: _,
             noted: _,
@@ -62,12 +70,15 @@ where
     ) -> Turns<'a, H>
         ensures { result.logged ≡ logged.entry }
     {
+        let kept = logged.site.mark();
         Turns {
             logged,
             door,
             clients,
             peers,
             reserve,
+            stall: None,
+            kept,
             now,
             swept: now,
             noted: None,
@@ -79,36 +90,97 @@ where
         self.door.address()
     }
 
-    /// One turn. It ends the site where the system can't be waited for, or the document can't be kept: then nothing of
-    /// the turn is sent.
-    pub fn turn(&mut self, rt: &H) -> Result<(), Fault>
+    /// One turn, unless what changed in it can't be written: then nothing of the turn is sent, and the answer is false.
+    /// It ends the site where the system can't be waited for, or the document can't be kept for another cause.
+    pub fn turn(&mut self, rt: &H) -> Result<bool, Fault>
     where
         H: Net + Print,
     {
         self.begin(rt)?;
         self.hear(rt);
-        let kept = self.send(rt)?;
-        self.sweep();
-        self.write_log(rt, kept);
-        Ok(())
+        self.end(rt)
     }
 
-    // Keeps what changed, and sends what is due. Answers when it was kept: from then on clients and peers have their
-    // time to take what is sent, however long the turn took. Many connections may have taken all other descriptors, so
-    // those in reserve are let go for it.
-    fn send(&mut self, rt: &H) -> Result<Instant, Fault>
+    /// The same after a turn that couldn't be written: the file is read anew. Who was answered something of that turn
+    /// that isn't so gets another answer, and changes are refused for a while. It ends the site where the file can't be
+    /// read, or isn't as it was kept last.
+    pub fn reopen(self, rt: &H) -> Result<Turns<'a, H>, Fault>
+    where
+        H: Net + Print,
+    {
+        let Turns {
+            logged,
+            door,
+            mut clients,
+            mut peers,
+            mut reserve,
+            stall,
+            kept,
+            now,
+            swept,
+            noted,
+        } = self;
+        reserve.let_go();
+        let logged = logged.reopen(rt, kept)?;
+        if stall.is_none() {
+            tell_begin(rt, logged.file);
+        }
+        let next = Stall::next(stall, Instant::now(rt).unwrap_or(now));
+        clients.refuse(next.pause());
+        peers.put_off(next.until());
+        let mut turns = Turns {
+            logged,
+            door,
+            clients,
+            peers,
+            reserve,
+            stall: Some(next),
+            kept,
+            now,
+            swept,
+            noted,
+        };
+        turns.end(rt)?;
+        Ok(turns)
+    }
+
+    // The end of a turn, where what changed can be written.
+    fn end(&mut self, rt: &H) -> Result<bool, Fault>
+    where
+        H: Net + Print,
+    {
+        let Some(kept) = self.send(rt)? else {
+            return Ok(false);
+        };
+        self.sweep();
+        self.write_log(rt, kept);
+        Ok(true)
+    }
+
+    // Keeps what changed, and sends what is due, unless that can't be written. Answers when it was kept: from then on
+    // clients and peers have their time to take what is sent, however long the turn took. Many connections may have
+    // taken all other descriptors, so those in reserve are let go for it.
+    fn send(&mut self, rt: &H) -> Result<Option<Instant>, Fault>
     where
         H: Net,
     {
+        let is_other = self.logged.site.mark() != self.kept;
         if self.logged.site.has_changed() && self.clients.len() > FEW {
             self.reserve.let_go();
         }
-        let committed = commit(rt, &mut self.logged.site)?;
+        let committed = match commit(rt, &mut self.logged.site) {
+            Ok(committed) => committed,
+            Err(Fault::Device) => return Ok(None),
+            Err(fault) => return Err(fault),
+        };
         self.reserve.fill(rt);
+        if is_other && self.stall.take().is_some() {
+            tell_end(rt, self.logged.file);
+        }
         let kept = Instant::now(rt).unwrap_or(self.now);
         tell(&committed, &mut self.clients, kept);
         self.peers.send(rt, &committed, self.door.registry(), kept);
-        Ok(kept)
+        Ok(Some(kept))
     }
 
     // Writes the log of a turn whose changes were kept at this time.
@@ -125,6 +197,9 @@ where
     // Where it shows that the file is behind, that is reported once.
     fn hear(&mut self, rt: &H) {
         let was_behind = self.logged.is_behind;
+        self.kept = self.logged.site.mark();
+        self.logged.stalled = self.stall.and_then(|stall| stall.left(self.now));
+        self.logged.is_trying = self.stall.is_some();
         self.note();
         self.clients.hear(rt, &mut self.logged, self.now);
         if self.logged.site.has_changed() {
@@ -141,7 +216,11 @@ where
     // Notes for the status and the metrics how many clients there are, and how peers stand: what is counted of them in
     // each turn, and how each of them stands where the last such note is a second old.
     fn note(&mut self) {
-        let counts = self.peers.counts(self.logged.forks, self.logged.is_behind);
+        let counts = self.peers.counts(
+            self.logged.forks,
+            self.logged.is_behind,
+            self.stall.is_some(),
+        );
         let site = &mut self.logged.site;
         site.note_clients(self.clients.len(), self.clients.listeners());
         site.note_peers(counts);

@@ -1,0 +1,148 @@
+//! What a site does whose file can't be written for now, as where the disk is full: what would change the document is
+//! refused for a while, and then one change is tried.
+ghost use Rattle.std.specs.Prelude.{◌≡◌, ◌<◌, ◌≤◌, OnOk};
+ghost use Rattle.http_server.specs.Response.{IsBlank};
+ghost use Rattle.rds_site.specs.Stalls.{TellsStall, is_change};
+
+use crate::schedule::after;
+use bytes::{Bytes, BytesMut};
+use http::header::{CONTENT_TYPE, HeaderValue, RETRY_AFTER};
+use http::{Request, StatusCode};
+use http_server::Response;
+use rds_files::{Disk, LockFile};
+use rds_names::Fault;
+use std::alloc::{AllocError, Global};
+use std::fs;
+use std::time::{Duration, Instant};
+
+/// The first pause in seconds, and the longest.
+const FIRST: u64 = 1;
+
+const LONGEST: u64 = 60;
+
+/// What a change is answered that isn't kept.
+const REFUSAL: &str =
+    "{\"fault\":24,\"name\":\"Device\",\"text\":\"reading, writing or another call of the system failed\"}";
+
+/// How the answer begins that is sent in place of what a change was answered, and of what a look was.
+const UNKEPT: &str =
+    "HTTP/1.1 507 Insufficient Storage\r\nconnection: close\r\ncontent-type: application/json\r\n";
+
+const UNSEEN: &str =
+    "HTTP/1.1 503 Service Unavailable\r\nconnection: close\r\nretry-after: 0\r\ncontent-length: 0\r\n\r\n";
+
+/// While a site's file can't be written: until when what would change the document is refused, and for how many seconds
+/// that was.
+#[derive(Clone, Copy, Debug)]
+pub struct Stall {
+    until: Instant,
+    pause: u64,
+}
+
+impl Stall {
+    /// The one after the file couldn't be written at this time: a longer one than an earlier one.
+    pub fn next(earlier: Option<Stall>, now: Instant) -> Stall {
+        let pause = match earlier {
+            Some(stall) => longer(stall.pause),
+            None => FIRST,
+        };
+        Stall {
+            until: after(now, Duration::from_secs(pause)),
+            pause,
+        }
+    }
+
+    /// Until when.
+    pub fn until(self) -> Instant {
+        self.until
+    }
+
+    /// For how many seconds.
+    pub fn pause(self) -> u64 {
+        self.pause
+    }
+
+    /// After how many seconds a change may be tried, where it may not be now.
+    pub fn left(self, now: Instant) -> Option<u64> {
+        if self.until <= now {
+            return None;
+        }
+        let left = self.until.duration_since(now).as_secs();
+        Some(left.saturating_add(1).min(self.pause))
+    }
+}
+
+/// The pause after one of so many seconds: twice as long, of a minute at most.
+fn longer(pause: u64) -> u64
+    ensures most { result ≤ 60 }
+    ensures grows { pause ≤ 30 → 0 < pause → pause < result }
+    ensures longest { 30 < pause → result ≡ 60 }
+{
+    pause.saturating_mul(2).min(LONGEST)
+}
+
+/// Whether a request may change the document.
+pub fn is_change(request: &Request<Bytes>) -> bool
+    ensures { result ≡ is_change request.now }
+{
+    rds_http::may_change(
+        request.method().as_str().as_bytes(),
+        request.uri().path().as_bytes(),
+    )
+}
+
+/// Refuses a change, which may be tried again after so many seconds.
+pub fn refuse_change(alloc: Global, seconds: u64, response: &mut Response) -> Result<(), AllocError>
+    requires { IsBlank response.old }
+    ensures { OnOk result (TellsStall seconds response.new) }
+{
+    let text = format!(in alloc; "{seconds}")?;
+    let Ok(value) = HeaderValue::from_vec(text.into_bytes()) else {
+        return Err(AllocError);
+    };
+    response.status = StatusCode::INSUFFICIENT_STORAGE;
+    response.add_header(CONTENT_TYPE, HeaderValue::from_static("application/json"))?;
+    response.add_header(RETRY_AFTER, value)?;
+    response.body.push(Bytes::from_static(REFUSAL.as_bytes()))
+}
+
+/// The last answer over a connection whose requests of a turn came to nothing, as a text of HTTP: to a change that it
+/// wasn't kept, and to what only looks that it may have shown such a change. A change may be tried again after so many
+/// seconds.
+pub fn parting(alloc: Global, is_change: bool, seconds: u64) -> Result<BytesMut, AllocError> {
+    let mut text = BytesMut::new(alloc);
+    if is_change {
+        let length = REFUSAL.len();
+        let whole = format!(in alloc;
+            "{UNKEPT}retry-after: {seconds}\r\ncontent-length: {length}\r\n\r\n{REFUSAL}"
+        )?;
+        text.extend_from_slice(whole.as_bytes())?;
+    } else {
+        text.extend_from_slice(UNSEEN.as_bytes())?;
+    }
+    Ok(text)
+}
+
+/// Refuses `Device` where the file at this path isn't the one that this process has locked, by which its lock is free.
+/// What others put there isn't taken for it.
+pub fn check_held<H: Disk>(rt: &H, path: &str) -> Result<(), Fault>
+where
+    H::File: LockFile,
+{
+    match fs::open(rt, path) {
+        Ok(file) if matches!(file.try_lock_exclusive(), Ok(false)) => Ok(()),
+        _ => Err(Fault::Device),
+    }
+}
+
+/// Tells on standard error, in a line, that changes of this file are refused from here on.
+pub fn tell_begin<H: Eprint>(rt: &H, file: &str) {
+    let _ = eprintln!(rt;
+        "{file}: can't be written: changes are refused until it can, and looks are answered"
+    );
+}
+
+/// Tells on standard error, in a line, that this file was written again.
+pub fn tell_end<H: Eprint>(rt: &H, file: &str) {
+    let _ = eprintln!(rt; "{file}: was written again: changes are done from here on");
+}
