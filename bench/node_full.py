@@ -321,24 +321,35 @@ def try_peer(asked, folder):
 
 
 def try_lost(asked, folder):
-    """A node whose file is an older one when it is read anew, or none of rds, ends, and leaves it as it is."""
+    """A node whose file was written over ends, and leaves it as it is: what it held stands beside it."""
     folder.mkdir()
-    for what, fault in ("an older one", "24: Device"), ("no file of rds", "13: Bad"):
+    for what in "an older one", "no file of rds":
         with on_small_disk(asked, folder / what) as (disk, node):
-            sent, file = Edits(), node.folder / "a.rds"
+            sent, file = Edits("x"), node.folder / "a.rds"
             node.start()
             want(sent.one(node), "an edit isn't done where there is room")
             older = file.read_bytes() if what == "an older one" else b"no file of rds"
             for _ in range(4):
                 want(sent.one(node), "an edit isn't done where there is room")
             disk.fill(node)
+            disk.clear(node)
             file.write_bytes(older)
-            with contextlib.suppress(OSError, Ended):
-                sent.until(node, False)
-            status, said = node.child.wait(LIMIT), node.said()
-            is_due = status == 1 and said.endswith(f"fault {fault}\n") and file.read_bytes() == older
-            want(is_due, f"where its file is {what} a node ends with {status}: {said}")
-    return "one whose file isn't what it was ends"
+            is_left_by(node, sent, older)
+    return "one whose file isn't what it was ends, and leaves what it held"
+
+
+def is_left_by(node, sent, there):
+    """A node ends at its next edit, leaves what is there as it is, and has left what it held beside it."""
+    number, text = next(sent.requests(node))
+    with contextlib.suppress(OSError, Ended), node.link() as link:
+        want(link.answer(text).status == 0, "an edit is answered")
+    status, said = node.child.wait(LIMIT), node.said()
+    ends = "a.rds: what it held is in a.rds.left\nfault 24: Device\n"
+    is_due = status == 1 and said.endswith(ends) and (node.folder / "a.rds").read_bytes() == there
+    want(is_due, f"where its file was written over a node ends with {status}: {said}")
+    (node.folder / "a.rds.left").rename(node.folder / "a.rds")
+    found = found_in(node.shown())
+    want(sent.done <= found <= sent.done | {number}, f"of {sorted(sent.done)} a.rds.left has {sorted(found)}")
 
 
 def try_full(asked, folder):

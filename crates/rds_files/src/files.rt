@@ -14,7 +14,7 @@ use crate::holders::lock_file;
 use crate::lasting::make_last;
 use crate::locks::{LockFile, lock, lock_if_free};
 use crate::reading::{read_kept, read_now, read_to_last};
-use crate::standing::check_standing;
+use crate::standing::{Whereabouts, check_standing, locate};
 use crate::targets::Target;
 use rds_dots::DotSet;
 use rds_keep::{Change, Changed, Kept, Layout, Stored, WasKept};
@@ -556,6 +556,12 @@ where
         } else {
             Err(Fault::Device)
         }
+    }
+
+    /// What became of the file: others may have moved it, removed it or written over it. Where that can't be found it
+    /// counts as lost.
+    pub fn whereabouts(&self, rt: &H) -> Whereabouts {
+        locate(rt, self.target.path(), &self.file, self.length()).unwrap_or(Whereabouts::Lost)
     }
 
     // Refuses `Device` where others put another file at the path, or wrote to this one.

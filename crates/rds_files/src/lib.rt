@@ -19,4 +19,4 @@ pub use files::{
 };
 pub use holders::HolderNote;
 pub use locks::LockFile;
-pub use standing::check_writing;
+pub use standing::{Whereabouts, check_writing};

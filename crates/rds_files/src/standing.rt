@@ -36,6 +36,42 @@ where
     }
 }
 
+/// What became of a file that is held.
+#[derive(Clone, Copy, Debug, PartialEq, Eq)]
+pub enum Whereabouts {
+    /// It stands at its path, as it was left.
+    There,
+    /// It has a name elsewhere, as it was left.
+    Elsewhere,
+    /// It has no name by now, or was written over: once it is let go, what it held is gone.
+    Lost,
+}
+
+/// What became of the file that is held, and has the length that is known.
+pub fn locate<H: Disk>(
+    rt: &H,
+    path: &str,
+    held: &H::File,
+    length: Option<u64>,
+) -> io::Result<Whereabouts>
+where
+    H::File: LockFile,
+{
+    let is_written_over = match length {
+        Some(length) => held.length()? != length,
+        None => false,
+    };
+    if is_written_over || held.links()? == 0 {
+        return Ok(Whereabouts::Lost);
+    }
+    match fs::open(rt, path) {
+        Ok(there) if there.is_same(held)? => Ok(Whereabouts::There),
+        Ok(_) => Ok(Whereabouts::Elsewhere),
+        Err(error) if error.kind() == ErrorKind::NotFound => Ok(Whereabouts::Elsewhere),
+        Err(error) => Err(error),
+    }
+}
+
 // What others did to the file that is held.
 fn change_at<H: Disk>(
     rt: &H,

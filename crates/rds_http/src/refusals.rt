@@ -121,11 +121,11 @@ pub fn refuse_method(
     add_field(response, ALLOW, methods)
 }
 
-const FOREIGN_HOST: &str = "the Host field doesn't name this machine";
+const FOREIGN_HOST: &str = "the Host field has to name this machine and this port";
 
 const FOREIGN_PAGE: &str = "the Origin field names another site";
 
-const NO_TOKEN: &str = "the token is due";
+const NO_TOKEN: &str = "the token of this node is due";
 
 /// Answers with a status and words.
 pub fn tell(

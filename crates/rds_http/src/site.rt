@@ -2,7 +2,7 @@
 ghost use Rattle.std.specs.Prelude.{◌≡◌, ◌≢◌, ◌⊎◌, false, IfErr, IfOk, OnErr, OnOk};
 ghost use Rattle.http.specs.Request.{body_of};
 ghost use Rattle.http_server.specs.Response.{IsBlank};
-ghost use Rattle.rds_files.specs.Files.{IsHeldAt, IsUnkept, RefusesLock};
+ghost use Rattle.rds_files.specs.Files.{IsHeldAt, IsUnkept, RefusesFile, RefusesLock};
 ghost use Rattle.rds_names.specs.Roster.{Begins};
 ghost use Rattle.rds_names.specs.declared.fault.Fault.TheVariants.{Memory};
 ghost use Rattle.rds_state.specs.Mark.{mark_of};
@@ -38,11 +38,11 @@ use bytes::Bytes;
 use http::header::HeaderValue;
 use http::{HeaderMap, Request};
 use http_server::{Response, Service};
-use rds_files::{Disk, LockFile};
+use rds_files::{CreatedFile, Disk, LockFile, Whereabouts};
 use rds_json::LineReader;
 use rds_names::Fault;
 use rds_state::Mark;
-use rds_store::DocumentFile;
+use rds_store::{DocumentFile, GapSet, create_file};
 use std::alloc::{AllocError, Global};
 use std::marker::Model;
 
@@ -191,6 +191,33 @@ where
             has_news,
             metrics,
         })
+    }
+
+    /// What became of the file, as [`DocumentFile::whereabouts`] has it.
+    pub fn whereabouts(&self, rt: &H) -> Whereabouts {
+        self.held.file.whereabouts(rt)
+    }
+
+    /// Leaves the document, with what wasn't kept, in a new file of this path, and lets its own file go. Refuses as
+    /// [`create_file`] does.
+    pub fn leave<'b>(self, rt: &H, path: &'b str) -> Result<CreatedFile<'b, GapSet>, Fault>
+        ensures left { IfOk result (λ file. file ≡ record { path = path.now; kept = self.entry.document }) }
+        ensures fault { IfErr result (RefusesFile self.entry.document) }
+    {
+        let Site {
+            alloc: _alloc,
+            held,
+            reader: _reader,
+            access: _access,
+            turn: _turn,
+            has_news: _has_news,
+            metrics: _metrics,
+        } = self;
+        let Held {
+            file,
+            has_changed: _,
+        } = held;
+        create_file(rt, path, file.into_document())
     }
 
     /// The mark of the document. It takes no time.

@@ -14,7 +14,7 @@ ghost use Rattle.rds_http.specs.Site.{KeepsFile};
 use crate::asked::Past;
 use crate::touched::Touched;
 use rds_fields::{split_tag, tag_text};
-use rds_files::{Disk, LockFile};
+use rds_files::{Disk, LockFile, Whereabouts};
 use rds_json::LineReader;
 use rds_lines::{Edits, edit_lines};
 use rds_names::{Fault, Roster};
@@ -78,6 +78,11 @@ where
     {
         self.file.keep(rt)
     }
+
+    /// What became of the file, as [`DocumentFile::whereabouts`] has it.
+    pub fn whereabouts(&self, rt: &H) -> Whereabouts {
+        self.file.whereabouts(rt)
+    }
 }
 
 impl<'a, H: Disk> Tracked<'a, H> {
@@ -100,6 +105,21 @@ impl<'a, H: Disk> Tracked<'a, H> {
         ensures { result.now ≡ self.now.document }
     {
         self.file.document()
+    }
+
+    /// The document, with what wasn't kept. The file is let go.
+    pub fn into_document(self) -> Document
+        ensures { result ≡ self.entry.document }
+    {
+        let Tracked {
+            alloc: _alloc,
+            file,
+            tag: _tag,
+            past: _past,
+            touched: _touched,
+            is_watched: _,
+        } = self;
+        file.into_document()
     }
 
     /// The tag of what the document asks. It is made anew only where the document may have changed.

@@ -7,11 +7,11 @@ ghost use Rattle.rds_site.specs.Stalls.{AnswersOrRefuses, stall_of};
 
 use crate::behind::{is_edit, refuse_edit, shows_behind};
 use crate::forks::{is_told_question, names_fork};
-use crate::stalls::{check_held, is_change, refuse_change};
+use crate::stalls::{is_change, leave, refuse_change};
 use bytes::Bytes;
 use http::{Method, Request};
 use http_server::{Response, Service};
-use rds_files::{Disk, LockFile};
+use rds_files::{Disk, LockFile, Whereabouts};
 use rds_http::Site;
 use rds_names::Fault;
 use rds_state::Mark;
@@ -209,7 +209,8 @@ where
     H::File: LockFile,
 {
     /// The same over its file, which is read anew, where what had changed couldn't be kept: what it holds has to have
-    /// this mark. Refuses as [`Site::reopen`] does, and `Device` where another file stands at the path by now.
+    /// this mark. Refuses as [`Site::reopen`] does. `Device` also where others moved, removed or wrote over the file: what
+    /// it held is left beside it, where it is nowhere else.
     pub fn reopen(self, rt: &H, kept: Mark) -> Result<LoggedSite<'a, H>, Fault>
         ensures behind { IfOk result (λ logged. logged.is_behind ≡ self.entry.is_behind) }
         ensures kept { IfOk result (λ logged. logged.site.document ≡ logged.site.kept) }
@@ -227,8 +228,14 @@ where
             is_trying,
             answered,
         } = self;
-        check_held(rt, file)?;
-        let site = site.reopen(rt, file, kept)?;
+        let site = match site.whereabouts(rt) {
+            Whereabouts::There => site.reopen(rt, file, kept)?,
+            Whereabouts::Elsewhere => return Err(Fault::Device),
+            Whereabouts::Lost => {
+                leave(rt, file, site);
+                return Err(Fault::Device);
+            }
+        };
         if let Some(log) = &mut log {
             log.cut();
         }

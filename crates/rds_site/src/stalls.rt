@@ -9,16 +9,19 @@ use bytes::{Bytes, BytesMut};
 use http::header::{CONTENT_TYPE, HeaderValue, RETRY_AFTER};
 use http::{Request, StatusCode};
 use http_server::Response;
-use rds_files::{Disk, LockFile};
+use rds_files::{Disk, LockFile, is_there};
+use rds_http::Site;
 use rds_names::Fault;
 use std::alloc::{AllocError, Global};
-use std::fs;
 use std::time::{Duration, Instant};
 
 /// The first pause in seconds, and the longest.
 const FIRST: u64 = 1;
 
 const LONGEST: u64 = 60;
+
+/// So many files are left beside one at most.
+const MOST_LEFT: u8 = 9;
 
 /// What a change is answered that isn't kept.
 const REFUSAL: &str =
@@ -123,16 +126,43 @@ pub fn parting(alloc: Global, is_change: bool, seconds: u64) -> Result<BytesMut,
     Ok(text)
 }
 
-/// Refuses `Device` where the file at this path isn't the one that this process has locked, by which its lock is free.
-/// What others put there isn't taken for it.
-pub fn check_held<H: Disk>(rt: &H, path: &str) -> Result<(), Fault>
+/// Leaves what a site has in a new file beside its own, where that was removed or written over: nothing else has it.
+/// Standard error says where it is.
+pub fn leave<H: Disk>(rt: &H, file: &str, site: Site<'_, H>)
 where
     H::File: LockFile,
 {
-    match fs::open(rt, path) {
-        Ok(file) if matches!(file.try_lock_exclusive(), Ok(false)) => Ok(()),
-        _ => Err(Fault::Device),
+    let is_left = match free_name(rt, file) {
+        Ok(name) => {
+            let is_left = site.leave(rt, name.as_str()).is_ok();
+            if is_left {
+                let _ = eprintln!(rt; "{file}: what it held is in {name}");
+            }
+            is_left
+        }
+        Err(_) => false,
+    };
+    if !is_left {
+        let _ = eprintln!(rt; "{file}: what it held can't be written beside it, and is lost");
     }
+}
+
+// The first of FILE.left, FILE.left2 and so on at which there is nothing.
+fn free_name<H: Disk>(rt: &H, file: &str) -> Result<String, Fault>
+where
+    H::File: LockFile,
+{
+    let first = format!(in rt.alloc(); "{file}.left")?;
+    if !is_there(rt, first.as_str())? {
+        return Ok(first);
+    }
+    for number in 2..=MOST_LEFT {
+        let name = format!(in rt.alloc(); "{first}{number}")?;
+        if !is_there(rt, name.as_str())? {
+            return Ok(name);
+        }
+    }
+    Err(Fault::Usage)
 }
 
 /// Tells on standard error, in a line, that changes of this file are refused from here on.

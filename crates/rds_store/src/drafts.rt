@@ -69,6 +69,17 @@ impl Draft {
         &self.document
     }
 
+    /// The document alone.
+    pub fn into_document(self) -> Document
+        ensures { result ≡ self.entry.document }
+    {
+        let Draft {
+            document,
+            changes: _changes,
+        } = self;
+        document
+    }
+
     /// The document was kept as it is now: from here on what changes it is noted. Takes no memory.
     pub fn set_kept(&mut self)
         ensures { self.new ≡ record { document = self.old.document; kept = self.old.document } }

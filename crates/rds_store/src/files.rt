@@ -12,7 +12,7 @@ ghost use Rattle.rds_store.specs.Meetings.{MergesSnapshot, RefusesSnapshot, Refu
 
 use crate::document::Document;
 use crate::drafts::Draft;
-use rds_files::{CreatedFile, Disk, EmptiedFile, LockFile, LockedFile};
+use rds_files::{CreatedFile, Disk, EmptiedFile, LockFile, LockedFile, Whereabouts};
 use rds_gaps::GapSet;
 use rds_names::Fault;
 use rds_output::Reply;
@@ -98,6 +98,11 @@ where
     {
         keep_in(rt, &mut self.draft, &mut self.file)
     }
+
+    /// What became of the file, as [`EmptiedFile::whereabouts`] has it.
+    pub fn whereabouts(&self, rt: &H) -> Whereabouts {
+        self.file.whereabouts(rt)
+    }
 }
 
 impl<H: Disk> DocumentFile<'_, H> {
@@ -106,6 +111,14 @@ impl<H: Disk> DocumentFile<'_, H> {
         ensures { result.now ≡ self.now.document }
     {
         self.draft.document()
+    }
+
+    /// The document, with what wasn't kept. The file is let go, and so is its lock.
+    pub fn into_document(self) -> Document
+        ensures { result ≡ self.entry.document }
+    {
+        let DocumentFile { draft, file: _file } = self;
+        draft.into_document()
     }
 
     /// Edits the document, as [`Document::edit`] does. To note what it changes takes memory.
