@@ -22,6 +22,8 @@ use Rattle.rds_http.specs.declared.routes.Asked.{Asked}
 use Rattle.rds_http.specs.declared.routes.Asked.TheVariants as Ask
 use Rattle.rds_http.specs.declared.routes.Change.{Change}
 use Rattle.rds_http.specs.declared.routes.Change.TheVariants as Changed
+use Rattle.rds_http.specs.declared.routes.Look.{Look}
+use Rattle.rds_http.specs.declared.routes.Look.TheVariants as Shown
 use Rattle.rds_http.specs.declared.routes.Post.{Post}
 use Rattle.rds_http.specs.declared.routes.Post.TheVariants.{Edits, Grow, Answer, Take, Push, Pull, Login}
 
@@ -46,6 +48,24 @@ abbrev pub may_change : Asked → Bool
 may_change (Ask.Post post) = is_changing post
 may_change (Ask.Change change) = true
 may_change _ = false
+
+-- what shows or brings as much as there is in the document
+abbrev pub is_long_look : Look → Bool
+is_long_look Shown.Page = false
+is_long_look Shown.Status = false
+is_long_look Shown.Metrics = false
+is_long_look _ = true
+
+abbrev pub is_long_post : Post → Bool
+is_long_post Answer = true
+is_long_post Pull = true
+is_long_post _ = false
+
+-- what may have a long answer, and changes nothing
+abbrev pub may_be_long : Asked → Bool
+may_be_long (Ask.Look look) = is_long_look look
+may_be_long (Ask.Post post) = is_long_post post
+may_be_long _ = false
 
 -- what is kept stays, and so does all but the document
 pub record KeepsRest (old new : SiteValue) : Type 0 where

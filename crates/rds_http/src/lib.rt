@@ -32,5 +32,5 @@ pub use access::Access;
 pub use asked::LONGEST_QUESTION;
 pub use metrics::{PeerCounts, PeerStanding};
 pub use rds_store::Lacks;
-pub use routes::{is_own_change, may_change};
+pub use routes::{is_own_change, may_be_long, may_change};
 pub use site::Site;

@@ -1,7 +1,7 @@
 //! What a request asks for, by its method and its path.
 ghost use Rattle.std.specs.Prelude.{◌≡◌, ◌≤◌, length};
 ghost use Rattle.std.specs.List.{prefix_len};
-ghost use Rattle.rds_http.specs.Answers.{may_change};
+ghost use Rattle.rds_http.specs.Answers.{may_be_long, may_change};
 ghost use Rattle.rds_http.specs.Routes.{
   asked_of,
   asked_with,
@@ -142,6 +142,18 @@ pub fn may_change(method: &[u8], path: &[u8]) -> bool
         route.asked,
         Asked::Post(Post::Edits | Post::Grow | Post::Take | Post::Push) | Asked::Change(_)
     )
+}
+
+/// Whether what a request of this method and this path is answered may be long: it shows or brings as much as there is
+/// in the document, and changes nothing.
+pub fn may_be_long(method: &[u8], path: &[u8]) -> bool
+    ensures { result ≡ may_be_long (asked_of method.now path.now) }
+{
+    match route_of(method, path).asked {
+        Asked::Look(look) => !matches!(look, Look::Page | Look::Status | Look::Metrics),
+        Asked::Post(post) => matches!(post, Post::Answer | Post::Pull),
+        _ => false,
+    }
 }
 
 /// What is asked for by a method of a resource.

@@ -1,3 +1,2 @@
 pub mod Addresses
-pub mod Behind
-pub mod Stalls
+pub mod Refusals

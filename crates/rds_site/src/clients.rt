@@ -118,6 +118,8 @@ pub struct Client {
     heard: Heard,
     load: Load,
     is_listed: bool,
+    // How many bytes it was given that it hasn't taken yet.
+    owed: usize,
     // Where it was answered in this turn what isn't so unless the turn is kept: whether the first of these requests may
     // change the document.
     unsure: Option<bool>,
@@ -148,6 +150,7 @@ impl Client {
                 is_answered: false,
             },
             is_listed: false,
+            owed: 0,
             unsure: None,
             is_resting: false,
         }
@@ -256,6 +259,16 @@ impl Client {
         }
     }
 
+    /// How many bytes it was given that it hasn't taken yet, heads aside.
+    pub fn owed(&self) -> usize {
+        self.owed
+    }
+
+    /// It was given so many bytes more.
+    pub fn note_given(&mut self, count: usize) {
+        self.owed = self.owed.saturating_add(count);
+    }
+
     /// Reads what the client says, up to a limit, and until something is due to it. The service answers its requests,
     /// in memory. What was answered in an earlier turn is sent before another request is answered, so that all that is
     /// due to it is of one turn.
@@ -299,6 +312,7 @@ impl Client {
         let Some(is_change) = self.unsure.take() else {
             return;
         };
+        self.owed = 0;
         match parting(alloc, is_change, seconds) {
             Ok(text) => self.talk = Talk::Parting(text),
             Err(_) => self.give_up(),
@@ -329,6 +343,7 @@ impl Client {
             Sent::Gone => Next::Never,
             Sent::Part => Next::Event,
             Sent::All => {
+                self.owed = 0;
                 if self.go_on(alloc) {
                     Next::Turn
                 } else {
@@ -357,7 +372,10 @@ impl Client {
             }
             match self.send_once(committed) {
                 Ok(0) => return Sent::Gone,
-                Ok(count) => self.wait.note_taken(count, now),
+                Ok(count) => {
+                    self.owed = self.owed.saturating_sub(count);
+                    self.wait.note_taken(count, now);
+                }
                 Err(error) => {
                     if let Some(sent) = Sent::after(&error) {
                         return sent;

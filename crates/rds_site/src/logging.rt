@@ -2,12 +2,12 @@
 ghost use Rattle.std.specs.Prelude.{◌≡◌, ◌&&◌, IfOk, IsTrue, OnErr, OnOk};
 ghost use Rattle.rds_state.specs.Mark.{mark_of};
 ghost use Rattle.http_server.specs.Response.{IsBlank};
-ghost use Rattle.rds_site.specs.Behind.{is_edit};
-ghost use Rattle.rds_site.specs.Stalls.{AnswersOrRefuses, stall_of};
+ghost use Rattle.rds_site.specs.Refusals.{AnswersOrRefuses, refusal_of};
 
-use crate::behind::{is_edit, refuse_edit, shows_behind};
+use crate::behind::shows_behind;
 use crate::forks::{is_told_question, names_fork};
-use crate::stalls::{is_change, leave, refuse_change};
+use crate::refusals::{Refusal, is_change, is_edit, is_long, refuse};
+use crate::stalls::leave;
 use bytes::Bytes;
 use http::{Method, Request};
 use http_server::{Response, Service};
@@ -78,16 +78,45 @@ impl Log {
     }
 }
 
+/// What a client is answered in one hearing.
+#[derive(Clone, Copy, Debug)]
+pub struct Hearing {
+    /// Where the client is.
+    pub client: SocketAddr,
+    /// Whether the first request may change the document. `None` where none was answered.
+    pub is_change: Option<bool>,
+    /// How many bytes the bodies of its answers have.
+    pub given: usize,
+}
+
+impl Hearing {
+    /// Of a client that was answered nothing yet.
+    pub fn of(client: SocketAddr) -> Hearing {
+        Hearing {
+            client,
+            is_change: None,
+            given: 0,
+        }
+    }
+
+    fn note(&mut self, request: &Request<Bytes>, response: &Response) {
+        if self.is_change.is_none() {
+            self.is_change = Some(is_change(request));
+        }
+        self.given = self.given.saturating_add(response.body.len());
+    }
+}
+
 /// A site, and the log of what it is asked, where one is kept. Once its file is known to be older than what its replica
-/// has sent, edits are refused; and changes are while the file can't be written.
+/// has sent, edits are refused; changes are while the file can't be written, and long answers while many are under way.
 pub struct LoggedSite<'a, H: Disk> {
     pub alloc: Global,
     /// The path of its file.
     pub file: &'a str,
     pub site: Site<'a, H>,
     pub log: Option<Log>,
-    /// Who asks.
-    pub client: SocketAddr,
+    /// Who asks, and what that is answered.
+    pub hearing: Hearing,
     /// How many requests came of a fork. A full count stays.
     pub forks: u64,
     /// Whether the file is known to be older than what its replica has sent.
@@ -96,9 +125,8 @@ pub struct LoggedSite<'a, H: Disk> {
     pub stalled: Option<u64>,
     /// Whether one change is tried, since the file couldn't be written.
     pub is_trying: bool,
-    /// Whether the first request that the client was answered in this turn may change the document, where there was
-    /// one.
-    pub answered: Option<bool>,
+    /// Whether many answers are under way.
+    pub is_crowded: bool,
 }
 
 impl<H: Disk> Drop for LoggedSite<'_, H> {
@@ -108,12 +136,12 @@ impl<H: Disk> Drop for LoggedSite<'_, H> {
             file: _,
             site: _site,
             log: _log,
-            client: _,
+            hearing: _,
             forks: _,
             is_behind: _,
             stalled: _,
             is_trying: _,
-            answered: _,
+            is_crowded: _,
         } = self;
     }
 }
@@ -122,12 +150,11 @@ impl<H: Disk> Service for LoggedSite<'_, H>
 where
     H::File: LockFile,
 {
-    ghost use Rattle.std.specs.Prelude.{◌&&◌, IsTrue};
-    ghost use Rattle.rds_site.specs.Behind.{is_edit};
-    ghost use Rattle.rds_site.specs.Stalls.{AnswersOrRefuses, stall_of};
+    ghost use Rattle.std.specs.Prelude.{IsTrue};
+    ghost use Rattle.rds_site.specs.Refusals.{AnswersOrRefuses, refusal_of};
 
     ghost answers = { λ old request response new.
-        AnswersOrRefuses (old.is_behind && is_edit request) (stall_of old.stalled request) old.site request response
+        AnswersOrRefuses (refusal_of old.is_behind old.stalled old.is_crowded request) old.site request response
         new.site × (IsTrue old.is_behind → IsTrue new.is_behind) };
 
     fn call(
@@ -136,12 +163,10 @@ where
         response: &mut Response,
     ) -> Result<(), AllocError> {
         self.answer(request, response)?;
-        if self.answered.is_none() {
-            self.answered = Some(is_change(request));
-        }
+        self.hearing.note(request, response);
         let has_changed = self.site.has_changed();
         if let Some(log) = &mut self.log {
-            log.note(self.client, request, response, has_changed);
+            log.note(self.hearing.client, request, response, has_changed);
         }
         Ok(())
     }
@@ -159,17 +184,13 @@ where
     ) -> Result<(), AllocError>
         requires { IsBlank response.old }
         ensures answered { OnOk result
-            (AnswersOrRefuses (self.old.is_behind && is_edit request.now) (stall_of self.old.stalled request.now)
+            (AnswersOrRefuses (refusal_of self.old.is_behind self.old.stalled self.old.is_crowded request.now)
             self.old.site request.now response.new self.new.site) }
         ensures behind { IsTrue self.old.is_behind → IsTrue self.new.is_behind }
         ensures err { OnErr result (self.new ≡ self.old) }
     {
-        let is_edit = is_edit(request);
-        if self.is_behind && is_edit {
-            return refuse_edit(response);
-        }
-        if let Some(seconds) = self.stall(request) {
-            return refuse_change(self.alloc, seconds, response);
+        if let Some(refusal) = self.refusal(request) {
+            return refuse(self.alloc, refusal, response);
         }
         self.site.call(request, response)?;
         self.is_behind |= shows_behind(request, response);
@@ -177,15 +198,23 @@ where
         Ok(())
     }
 
-    // After how many seconds a request may be tried again, where it is refused now.
-    fn stall(&self, request: &Request<Bytes>) -> Option<u64>
-        ensures { result ≡ stall_of self.now.stalled request.now }
+    // Why a request is refused, where it is.
+    fn refusal(&self, request: &Request<Bytes>) -> Option<Refusal>
+        ensures { result ≡ refusal_of self.now.is_behind self.now.stalled self.now.is_crowded request.now }
     {
-        if is_change(request) {
-            self.stalled
-        } else {
-            None
+        if self.is_behind && is_edit(request) {
+            return Some(Refusal::Behind);
         }
+        if is_change(request) {
+            return match self.stalled {
+                Some(seconds) => Some(Refusal::Stalled(seconds)),
+                None => None,
+            };
+        }
+        if self.is_crowded && is_long(request) {
+            return Some(Refusal::Crowded);
+        }
+        None
     }
 
     // Counts a request that came of a fork.
@@ -221,12 +250,12 @@ where
             file,
             site,
             mut log,
-            client,
+            hearing,
             forks,
             is_behind,
             stalled,
             is_trying,
-            answered,
+            is_crowded,
         } = self;
         let site = match site.whereabouts(rt) {
             Whereabouts::There => site.reopen(rt, file, kept)?,
@@ -244,12 +273,12 @@ where
             file,
             site,
             log,
-            client,
+            hearing,
             forks,
             is_behind,
             stalled,
             is_trying,
-            answered,
+            is_crowded,
         })
     }
 }

@@ -5,7 +5,7 @@ ghost use Rattle.rds_site.specs.Addresses.{NamesPlace};
 
 use crate::addresses::{check_reach, read_address};
 use crate::arrivals::Door;
-use crate::logging::{Log, LoggedSite};
+use crate::logging::{Hearing, Log, LoggedSite};
 use crate::peer_table::Peers;
 use crate::reserve::Reserve;
 use crate::table::Clients;
@@ -120,12 +120,12 @@ where
         file: words.file,
         site: Site::new(rt.alloc(), file, access),
         log: log_of(rt.alloc(), words.log),
-        client: address,
+        hearing: Hearing::of(address),
         forks: 0,
         is_behind: false,
         stalled: None,
         is_trying: false,
-        answered: None,
+        is_crowded: false,
     };
     let _ = eprintln!(rt; "listening on http://{address}/");
     Ok(Turns::new(logged, door, clients, peers, reserve, now))

@@ -1,14 +1,10 @@
 //! What a site does whose file can't be written for now, as where the disk is full: what would change the document is
 //! refused for a while, and then one change is tried.
-ghost use Rattle.std.specs.Prelude.{◌≡◌, ◌<◌, ◌≤◌, OnOk};
-ghost use Rattle.http_server.specs.Response.{IsBlank};
-ghost use Rattle.rds_site.specs.Stalls.{TellsStall, is_change};
+ghost use Rattle.std.specs.Prelude.{◌≡◌, ◌<◌, ◌≤◌};
 
+use crate::refusals::UNKEPT;
 use crate::schedule::after;
-use bytes::{Bytes, BytesMut};
-use http::header::{CONTENT_TYPE, HeaderValue, RETRY_AFTER};
-use http::{Request, StatusCode};
-use http_server::Response;
+use bytes::BytesMut;
 use rds_files::{Disk, LockFile, is_there};
 use rds_http::Site;
 use rds_names::Fault;
@@ -23,12 +19,8 @@ const LONGEST: u64 = 60;
 /// So many files are left beside one at most.
 const MOST_LEFT: u8 = 9;
 
-/// What a change is answered that isn't kept.
-const REFUSAL: &str =
-    "{\"fault\":24,\"name\":\"Device\",\"text\":\"reading, writing or another call of the system failed\"}";
-
 /// How the answer begins that is sent in place of what a change was answered, and of what a look was.
-const UNKEPT: &str =
+const UNKEPT_HEAD: &str =
     "HTTP/1.1 507 Insufficient Storage\r\nconnection: close\r\ncontent-type: application/json\r\n";
 
 const UNSEEN: &str =
@@ -84,40 +76,15 @@ fn longer(pause: u64) -> u64
     pause.saturating_mul(2).min(LONGEST)
 }
 
-/// Whether a request may change the document.
-pub fn is_change(request: &Request<Bytes>) -> bool
-    ensures { result ≡ is_change request.now }
-{
-    rds_http::may_change(
-        request.method().as_str().as_bytes(),
-        request.uri().path().as_bytes(),
-    )
-}
-
-/// Refuses a change, which may be tried again after so many seconds.
-pub fn refuse_change(alloc: Global, seconds: u64, response: &mut Response) -> Result<(), AllocError>
-    requires { IsBlank response.old }
-    ensures { OnOk result (TellsStall seconds response.new) }
-{
-    let text = format!(in alloc; "{seconds}")?;
-    let Ok(value) = HeaderValue::from_vec(text.into_bytes()) else {
-        return Err(AllocError);
-    };
-    response.status = StatusCode::INSUFFICIENT_STORAGE;
-    response.add_header(CONTENT_TYPE, HeaderValue::from_static("application/json"))?;
-    response.add_header(RETRY_AFTER, value)?;
-    response.body.push(Bytes::from_static(REFUSAL.as_bytes()))
-}
-
 /// The last answer over a connection whose requests of a turn came to nothing, as a text of HTTP: to a change that it
 /// wasn't kept, and to what only looks that it may have shown such a change. A change may be tried again after so many
 /// seconds.
 pub fn parting(alloc: Global, is_change: bool, seconds: u64) -> Result<BytesMut, AllocError> {
     let mut text = BytesMut::new(alloc);
     if is_change {
-        let length = REFUSAL.len();
+        let length = UNKEPT.len();
         let whole = format!(in alloc;
-            "{UNKEPT}retry-after: {seconds}\r\ncontent-length: {length}\r\n\r\n{REFUSAL}"
+            "{UNKEPT_HEAD}retry-after: {seconds}\r\ncontent-length: {length}\r\n\r\n{UNKEPT}"
         )?;
         text.extend_from_slice(whole.as_bytes())?;
     } else {

@@ -1,7 +1,7 @@
 //! The clients of a site.
 use crate::clients::{Client, Next, Rank};
 use crate::committed::Committed;
-use crate::logging::LoggedSite;
+use crate::logging::{Hearing, LoggedSite};
 use crate::schedule::Rest;
 use mio::Token;
 use rds_files::{Disk, LockFile};
@@ -17,6 +17,9 @@ pub const MOST_CLIENTS: usize = 1024;
 /// The requests of all clients take so much room at most, in bytes, and what one hearing brings.
 const MOST_ROOM: usize = 268_435_456;
 
+/// Where answers under way have more bytes than this, no other long one is begun.
+const MOST_OWED: usize = 268_435_456;
+
 /// The clients of a site, and which of them have a turn.
 #[derive(Drop)]
 pub struct Clients {
@@ -25,6 +28,8 @@ pub struct Clients {
     listeners: usize,
     // How much room the requests of all have taken.
     room: usize,
+    // How many bytes all were given that they haven't taken yet.
+    owed: usize,
     // Those that are heard in this turn, and those that are heard in the next one without an event.
     due: Vec<usize>,
     next: Vec<usize>,
@@ -41,6 +46,7 @@ impl Clients {
             table: Slab::with_capacity(alloc, MOST_CLIENTS)?,
             listeners: 0,
             room: 0,
+            owed: 0,
             due: Vec::with_capacity(alloc, MOST_CLIENTS)?,
             next: Vec::with_capacity(alloc, MOST_CLIENTS)?,
             resting: VecDeque::with_capacity(alloc, MOST_CLIENTS)?,
@@ -117,10 +123,15 @@ impl Clients {
     // Lets the client of this key go.
     fn remove(&mut self, key: usize) {
         if let Some(client) = self.table.try_remove(key) {
-            let had = Share::of(&client);
-            self.listeners = changed(self.listeners, had.listeners, 0);
-            self.room = changed(self.room, had.room, 0);
+            self.count(Share::of(&client), Share::default());
         }
+    }
+
+    // Counts what a client's share has become.
+    fn count(&mut self, before: Share, after: Share) {
+        self.listeners = changed(self.listeners, before.listeners, after.listeners);
+        self.room = changed(self.room, before.room, after.room);
+        self.owed = changed(self.owed, before.owed, after.owed);
     }
 
     /// Begins a turn: those that were left to it have it, and the next of those that rest, where the rest has ended.
@@ -199,20 +210,22 @@ impl Clients {
         let Some(client) = self.table.get_mut(key) else {
             return;
         };
-        let had = client.room();
-        site.client = client.address();
-        site.answered = None;
+        let before = Share::of(client);
+        site.hearing = Hearing::of(client.address());
+        site.is_crowded = MOST_OWED < self.owed;
         client.hear(site);
+        client.note_given(site.hearing.given);
         if site.site.has_changed() {
-            if let Some(is_change) = site.answered {
+            if let Some(is_change) = site.hearing.is_change {
                 client.note_unsure(is_change);
             }
         }
-        let has = client.room();
-        self.room = changed(self.room, had, has);
-        if MOST_ROOM < self.room && had < has {
+        let after = Share::of(client);
+        let is_full = MOST_ROOM < changed(self.room, before.room, after.room);
+        if is_full && before.room < after.room {
             client.give_up();
         }
+        self.count(before, after);
     }
 
     /// Notes a text for all that are told of changes, which have a turn so.
@@ -254,9 +267,10 @@ impl Clients {
         let Some(client) = self.table.get_mut(key) else {
             return;
         };
-        let had = client.room();
+        let before = Share::of(client);
         client.refuse(self.alloc, seconds);
-        self.room = changed(self.room, had, client.room());
+        let after = Share::of(client);
+        self.count(before, after);
     }
 
     fn send_to<H: Disk>(&mut self, committed: &Committed<'_, '_, H>, key: usize, now: Instant) {
@@ -267,8 +281,7 @@ impl Clients {
         client.set_listed(false);
         let next = client.send(self.alloc, committed, now);
         let after = Share::of(client);
-        self.listeners = changed(self.listeners, before.listeners, after.listeners);
-        self.room = changed(self.room, before.room, after.room);
+        self.count(before, after);
         match next {
             Next::Event => (),
             Next::Turn => list(&mut self.table, &mut self.next, key),
@@ -293,10 +306,11 @@ impl Clients {
 }
 
 // What one client has of the table's counts.
-#[derive(Clone, Copy)]
+#[derive(Clone, Copy, Default)]
 struct Share {
     listeners: usize,
     room: usize,
+    owed: usize,
 }
 
 impl Share {
@@ -304,6 +318,7 @@ impl Share {
         Share {
             listeners: usize::from(client.is_listener()),
             room: client.room(),
+            owed: client.owed(),
         }
     }
 }
