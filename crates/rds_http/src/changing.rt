@@ -52,6 +52,19 @@ impl<H: Disk> Drop for Held<'_, H> {
     }
 }
 
+impl<H: Disk> Held<'_, H> {
+    /// The document, with what wasn't kept. The file is let go.
+    pub fn into_document(self) -> Document
+        ensures { result ≡ self.entry.file.document }
+    {
+        let Held {
+            file,
+            has_changed: _,
+        } = self;
+        file.into_document()
+    }
+}
+
 /// Edits the document as the lines of a body say, and answers each but the empty ones. What that takes is there before
 /// the first is done, so that what is done is answered. Where each line is refused, the status is that of the first. A
 /// body of too many lines is refused whole (`TooLong`).

@@ -213,11 +213,7 @@ where
             has_news: _has_news,
             metrics: _metrics,
         } = self;
-        let Held {
-            file,
-            has_changed: _,
-        } = held;
-        create_file(rt, path, file.into_document())
+        create_file(rt, path, held.into_document())
     }
 
     /// The mark of the document. It takes no time.
