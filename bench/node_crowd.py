@@ -6,9 +6,9 @@ from serving import HOST, LIMIT, Node, running, soon, want
 
 # So many entries of so many bytes make an answer of which no system takes more than a part at once.
 ENTRIES, WIDTH, A_REQUEST = 20_000, 1_000, 5_000
-# So many clients ask for it, and the node may hold so many bytes in all: 268,435,456 of answers, one answer more, the
-# document, and what an answer takes while it is made.
-CLIENTS, MOST = 64, 480
+# So many clients ask for it, a few at a time, and the node may hold so many MB in all: 268 of answers, one answer more,
+# the document, and what an answer takes while it is made. All that is asked for has 1,900.
+CLIENTS, AT_ONCE, MOST = 96, 8, 480
 REFUSAL = b'{"status":503,"text":"too many answers are under way"}'
 
 
@@ -18,9 +18,11 @@ def lines(first):
 
 @contextlib.contextmanager
 def holding(node, request):
-    """Clients that send a request and take nothing of its answer."""
+    """Clients that send a request and take nothing of its answer. The node has a turn between some and the next."""
     with contextlib.ExitStack() as stack:
-        for _ in range(CLIENTS):
+        for number in range(CLIENTS):
+            if number % AT_ONCE == 0:
+                node.status()
             link = stack.enter_context(socket.socket())
             link.setsockopt(socket.SOL_SOCKET, socket.SO_RCVBUF, 8_192)
             link.connect((HOST, node.port))
@@ -53,7 +55,6 @@ REQUESTS = [
     (("GET", "/status"), 200),
     (("GET", "/metrics"), 200),
     (("GET", "/"), 200),
-    (("HEAD", "/"), 200),
     (("POST", "/edits", b'["inc","n",1]'), 200),
     (("PUT", "/value/x", b"1"), 200),
     (("GET", "/nothing"), 404),
