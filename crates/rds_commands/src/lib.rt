@@ -1,6 +1,7 @@
 //! The program's commands: words in, what is written and the exit status out. Read from above: `program`, `telling`,
 //! `outcome`, `file_commands`, `batch`, `looking`, `listing`, `offline`, `session_words`, `visits`, `responses`, `calls`,
-//! `watching`, `site`, `unparsed` and `laws`. What people are told beside it is in `notes`, `letter_notes`, `tips` and `causes`.
+//! `watching`, `site`, `unparsed` and `laws`. What people are told beside it is in `notes`, `letter_notes`, `line_notes`,
+//! `tips` and `causes`.
 #![tactic(auto)]
 
 mod batch;
@@ -9,6 +10,7 @@ mod causes;
 mod file_commands;
 mod laws;
 mod letter_notes;
+mod line_notes;
 mod listing;
 mod looking;
 mod notes;

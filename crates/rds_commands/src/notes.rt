@@ -1,6 +1,6 @@
 //! What is written on standard error of words and files that are refused, and of edits. Each thing is reported once:
 //! `rds_files` tells of a file that can't be used or isn't one of rds.
-use crate::causes::{bad_key, bad_name, stands_twice};
+use crate::causes::{AMOUNT, COUNTER_KEY, PATH, VALUE, bad_key, bad_name, stands_twice};
 use crate::visits::is_site;
 use rds_dots::DotSet;
 use rds_files::{Disk, ReplicaFile, is_beside};
@@ -15,9 +15,6 @@ use rds_words::{
     EditWords, GrowWords, InitFromWords, InitWords, ServeWords, SyncWords, ValueWord, amount_of,
 };
 use std::alloc::Global;
-
-/// What a path is.
-const PATH: &str = "1 to 8 keys with '/' between them, each of 1 to 64 bytes";
 
 /// Tells which file a command was refused for, and by which fault, unless that was reported of the file already.
 pub fn note_file<H: Eprint>(rt: &H, path: &str, fault: Fault) {
@@ -229,9 +226,7 @@ fn note_entry<H: Eprint>(rt: &H, file: &str, path: &str, value: ValueWord<'_>, f
             let _ = eprintln!(rt; "'{value}' is no JSON: did you mean '\"{value}\"', or --text?");
         }
         (Fault::BadScalar, ValueWord::Json(value)) => {
-            let _ = eprintln!(rt;
-                "'{value}' is no value: whole numbers of 64 bits, texts of at most 1024 bytes, true, false and null are"
-            );
+            let _ = eprintln!(rt; "'{value}' {VALUE}");
         }
         (Fault::BadScalar, ValueWord::Text(value)) => {
             let length = value.len();
@@ -245,14 +240,10 @@ fn note_entry<H: Eprint>(rt: &H, file: &str, path: &str, value: ValueWord<'_>, f
 fn note_count<H: Eprint>(rt: &H, file: &str, key: &str, by: &str, fault: Fault) {
     match fault {
         Fault::BadKey => {
-            let _ = eprintln!(rt;
-                "'{key}' is no counter's key: counters stand at the root, so it has 1 to 64 bytes and no '/'"
-            );
+            let _ = eprintln!(rt; "'{key}' {COUNTER_KEY}");
         }
         Fault::Usage => {
-            let _ = eprintln!(rt;
-                "BY '{by}' is no whole number of 64 bits, 0 or more: inc raises by it, and dec lowers"
-            );
+            let _ = eprintln!(rt; "BY '{by}' {AMOUNT}");
         }
         _ => note_file(rt, file, fault),
     }
