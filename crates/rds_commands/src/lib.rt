@@ -1,9 +1,10 @@
 //! The program's commands: words in, what is written and the exit status out. Read from above: `program`, `telling`,
 //! `outcome`, `file_commands`, `batch`, `looking`, `listing`, `offline`, `session_words`, `visits`, `responses`, `calls`,
 //! `watching`, `site`, `unparsed` and `laws`. What people are told beside it is in `notes`, `letter_notes`, `line_notes`,
-//! `tips` and `causes`.
+//! `address_notes`, `tips` and `causes`.
 #![tactic(auto)]
 
+mod address_notes;
 mod batch;
 mod calls;
 mod causes;

@@ -18,7 +18,7 @@ ghost use Rattle.rds_commands.specs.Looks.{RefusesGet};
 ghost use Rattle.rds_files.specs.Files.{IsUnreadFile};
 ghost use Rattle.rds_names.specs.declared.fault.Fault.TheVariants.{Memory};
 
-use crate::notes::{note_conflicts, note_files, note_part, note_several};
+use crate::notes::{note_conflicts, note_files, note_part, note_part_alone, note_several};
 use crate::offline::status_for;
 use rds_dots::DotSet;
 use rds_files::{Disk, ReplicaFile};
@@ -171,7 +171,7 @@ pub fn run_dump<H: Disk, W: Write>(rt: &H, path: &str, text: &str, writer: &mut 
             write_lines(writer, &done.into_told(), 0)
         }
         Err(fault) => {
-            note_part(rt, path, text, fault);
+            note_part_alone(rt, path, text, fault);
             status_for(fault)
         }
     }
