@@ -1,7 +1,7 @@
 //! The program's commands: words in, what is written and the exit status out. Read from above: `program`, `telling`,
 //! `outcome`, `file_commands`, `batch`, `looking`, `listing`, `offline`, `session_words`, `visits`, `responses`, `calls`,
 //! `watching`, `site`, `unparsed` and `laws`. What people are told beside it is in `notes`, `letter_notes`, `line_notes`,
-//! `address_notes`, `tips` and `causes`.
+//! `place_notes`, `address_notes`, `tips` and `causes`.
 #![tactic(auto)]
 
 mod address_notes;
@@ -17,6 +17,7 @@ mod looking;
 mod notes;
 mod offline;
 mod outcome;
+mod place_notes;
 mod program;
 mod responses;
 mod session_words;

@@ -22,6 +22,7 @@ use crate::notes::{
     note_init, note_part, note_unwritten,
 };
 use crate::outcome::told;
+use crate::place_notes::note_no_map;
 use crate::site::{RunSite, SiteRequest};
 use crate::visits::is_site;
 use rds_files::{Disk, LockFile};
@@ -184,6 +185,9 @@ pub fn run_show<H: Disk, W: Write>(
     ensures broken { (writer.new.failed ≡ writer.old.failed) ⊎ (result ≡ 1) }
 {
     let done = show_file(rt, path, text, layout);
+    if let Ok(done) = &done {
+        note_no_map(rt, &done.file, path, text, &done.answer);
+    }
     told(done, writer, |fault| note_part(rt, path, text, fault))
 }
 
