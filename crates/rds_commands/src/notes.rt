@@ -91,7 +91,10 @@ pub fn note_init_from<H: Disk>(rt: &H, words: &InitFromWords<'_>, fault: Fault) 
     let from = words.from;
     match fault {
         Fault::Usage => (),
-        Fault::BadName => note_name(rt, own),
+        Fault::BadName => {
+            note_name(rt, own);
+            note_swapped(rt, words);
+        }
         Fault::NoSuch => {
             let _ = eprintln!(rt; "'{own}' is no name of the group: 'grow {from} {own}' adds it");
         }
@@ -106,6 +109,14 @@ pub fn note_init_from<H: Disk>(rt: &H, words: &InitFromWords<'_>, fault: Fault) 
             note_no_file(rt, from);
         }
         _ => note_file_alone(rt, words.file, fault),
+    }
+}
+
+// Tells that the file and its name may stand in each other's place, where both look so.
+fn note_swapped<H: Eprint>(rt: &H, words: &InitFromWords<'_>) {
+    let (file, own, from) = (words.file, words.own, words.from);
+    if Name::new(file).is_ok() && (own.contains('.') || own.contains('/')) {
+        let _ = eprintln!(rt; "did you mean 'init {own} {file} --from {from}'?");
     }
 }
 
