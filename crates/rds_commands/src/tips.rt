@@ -56,7 +56,10 @@ fn has_amounts(command: &str) -> bool {
 /// Tells what the library's text doesn't say of a mistake in words.
 pub fn note_mistake<H: Eprint, S: AsStr>(rt: &H, words: &[S], error: &Error) {
     match error.kind() {
-        ErrorKind::UnknownArgument => note_below_zero(rt, words),
+        ErrorKind::UnknownArgument => {
+            note_below_zero(rt, words);
+            note_one_more(rt, words);
+        }
         ErrorKind::MissingRequiredArgument => note_lacking(rt, words),
         _ => (),
     }
@@ -70,6 +73,26 @@ fn note_below_zero<H: Eprint, S: AsStr>(rt: &H, words: &[S]) {
             return;
         }
     }
+}
+
+// Tells that a file is one too many for `merge`.
+fn note_one_more<H: Eprint, S: AsStr>(rt: &H, words: &[S]) {
+    if command_in(words) == "merge" && !has_option(words) {
+        if let Some(word) = words.get(4) {
+            let word = word.as_str();
+            let _ = eprintln!(rt; "merge takes one FROM a call, and '{word}' is one more");
+        }
+    }
+}
+
+// Whether one of these words is an option.
+fn has_option<S: AsStr>(words: &[S]) -> bool {
+    for word in words {
+        if word.as_str().starts_with('-') {
+            return true;
+        }
+    }
+    false
 }
 
 // Tells what `init` lacks with `--from`, of which the library knows only what it lacks without.
