@@ -7,7 +7,7 @@ ghost use Rattle.rds_site.specs.Refusals.{AnswersOrRefuses, refusal_of};
 use crate::behind::shows_behind;
 use crate::forks::{is_told_question, names_fork};
 use crate::refusals::{Refusal, is_change, is_edit, is_long, refuse};
-use crate::stalls::leave;
+use crate::remains::leave;
 use bytes::Bytes;
 use http::{Method, Request};
 use http_server::{Response, Service};
