@@ -1,7 +1,7 @@
 //! The loop of a node: a site that runs. One process and one thread hold a document in its file, and serve it over
 //! HTTP, and meet other nodes over theirs. Read `words`, `addresses`; then `committed`, `reserve`, `schedule`,
-//! `refusals`, `behind`, `stalls`, `remains`, `forks`, `logging`, `sockets`, `listeners`, `patience`, `clients`, `table`;
-//! then `channels`, `levels`, `exchanges`, `peers`, `peer_table`; then `arrivals`, `turns`, `running`.
+//! `refusals`, `behind`, `stalls`, `remains`, `forks`, `logging`, `sockets`, `listeners`, `patience`, `clients`,
+//! `table`; then `channels`, `levels`, `exchanges`, `peers`, `peer_table`; then `arrivals`, `turns`, `running`.
 #![tactic(auto)]
 
 mod addresses;

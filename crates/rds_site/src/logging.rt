@@ -238,8 +238,8 @@ where
     H::File: LockFile,
 {
     /// The same over its file, which is read anew, where what had changed couldn't be kept: what it holds has to have
-    /// this mark. Refuses as [`Site::reopen`] does. `Device` also where others moved, removed or wrote over the file: what
-    /// it held is left beside it, where it is nowhere else.
+    /// this mark. Refuses as [`Site::reopen`] does. `Device` also where others moved, removed or wrote over the file:
+    /// what it held is left beside it, where it is nowhere else.
     pub fn reopen(self, rt: &H, kept: Mark) -> Result<LoggedSite<'a, H>, Fault>
         ensures behind { IfOk result (λ logged. logged.is_behind ≡ self.entry.is_behind) }
         ensures kept { IfOk result (λ logged. logged.site.document ≡ logged.site.kept) }
