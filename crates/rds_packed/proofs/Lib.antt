@@ -7,9 +7,17 @@ mod ListFormats
 mod LongNumbers
 mod Loops
 mod NumbersSpelled
+mod RowAlgebra
 pub mod RowFormats
 pub mod RowLengths
+mod RowSets
 mod RowsMet
 mod RowsRead
+mod SeenFormats
+pub mod SeenLengths
+mod SeenRead
+mod SeenRuns
+mod SeenWalks
+mod SeenWithin
 mod Steps
 mod ValueFormats

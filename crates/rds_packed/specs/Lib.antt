@@ -2,4 +2,8 @@ pub mod GoOn
 pub mod PackedReading
 pub mod PackedSteady
 pub mod PackedTexts
+pub mod SeenReading
+pub mod SeenRows
+pub mod SeenSteady
+pub mod SeenTexts
 pub mod Wholes

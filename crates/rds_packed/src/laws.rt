@@ -1,4 +1,4 @@
-//! Laws of the texts of live rows in few bytes.
+//! Laws of texts in few bytes.
 ghost use Rattle.std.specs.Prelude.{ℕ, List};
 ghost use Rattle.rds_dots.specs.Dots.{Dots};
 ghost use Rattle.rds_bytes.specs.OneText.{HasOneText};
@@ -8,6 +8,8 @@ ghost use Rattle.rds_bytes.specs.Tabled.{IsShortTable, IsKeyOf, AreTabledRows};
 ghost use Rattle.rds_bytes.specs.Values.{AreDotsOf};
 ghost use Rattle.rds_packed.specs.PackedReading.{packed_key_at, packed_lives_at};
 ghost use Rattle.rds_packed.specs.PackedTexts.{packed_key_text, packed_lives_text};
+ghost use Rattle.rds_packed.specs.SeenReading.{packed_dots_at};
+ghost use Rattle.rds_packed.specs.SeenTexts.{packed_dots_text, AreFewDotsOf};
 
 use rds_bytes::packed_numbers_have_one_text;
 
@@ -28,4 +30,17 @@ pub fn packed_lives_have_one_text()
 pub fn packed_lives_are_steady()
     ensures key { (table : List (List ℕ)) → IsSteady (packed_key_at table) }
     ensures lives { (key : Reader (List ℕ)) → IsSteady key → (seen : Dots) → IsSteady (packed_lives_at key seen) }
+{}
+
+/// A set of dots of so many replicas, whose gaps four bytes can count, has one text. The function does nothing: its
+/// contract is the law.
+pub fn packed_dots_have_one_text()
+    ensures { (replicas : ℕ) → HasOneText (packed_dots_at replicas) packed_dots_text (AreFewDotsOf replicas) }
+{
+    packed_numbers_have_one_text();
+}
+
+/// The readers of sets of dots are steady. The function does nothing: its contract is the law.
+pub fn packed_dots_are_steady()
+    ensures { (replicas : ℕ) → IsSteady (packed_dots_at replicas) }
 {}
