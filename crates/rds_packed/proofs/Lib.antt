@@ -2,6 +2,8 @@ pub mod Combined
 mod DotFormats
 mod EntryFormats
 mod EntrySteps
+mod FrontLaws
+mod FrontKeys
 mod KeySteps
 mod ListFormats
 mod LongNumbers

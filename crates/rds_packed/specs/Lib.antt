@@ -1,3 +1,5 @@
+pub mod FrontSteady
+pub mod FrontTexts
 pub mod GoOn
 pub mod PackedReading
 pub mod PackedSteady

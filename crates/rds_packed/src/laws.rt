@@ -6,6 +6,7 @@ ghost use Rattle.rds_bytes.specs.Reading.{Reader};
 ghost use Rattle.rds_bytes.specs.Steady.{IsSteady};
 ghost use Rattle.rds_bytes.specs.Tabled.{IsShortTable, IsKeyOf, AreTabledRows};
 ghost use Rattle.rds_bytes.specs.Values.{AreDotsOf};
+ghost use Rattle.rds_packed.specs.FrontTexts.{packed_table_at, packed_table_text};
 ghost use Rattle.rds_packed.specs.PackedReading.{packed_key_at, packed_lives_at};
 ghost use Rattle.rds_packed.specs.PackedTexts.{packed_key_text, packed_lives_text};
 ghost use Rattle.rds_packed.specs.SeenReading.{packed_dots_at};
@@ -43,4 +44,16 @@ pub fn packed_dots_have_one_text()
 /// The readers of sets of dots are steady. The function does nothing: its contract is the law.
 pub fn packed_dots_are_steady()
     ensures { (replicas : ℕ) → IsSteady (packed_dots_at replicas) }
+{}
+
+/// A table of keys that share their fronts has one text. The function does nothing: its contract is the law.
+pub fn packed_tables_have_one_text()
+    ensures { HasOneText packed_table_at packed_table_text IsShortTable }
+{
+    packed_numbers_have_one_text();
+}
+
+/// The reader of tables of keys that share their fronts is steady. The function does nothing: its contract is the law.
+pub fn packed_tables_are_steady()
+    ensures { IsSteady packed_table_at }
 {}
