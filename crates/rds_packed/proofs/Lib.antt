@@ -1,4 +1,7 @@
 pub mod Combined
+mod CountFormats
+mod CountsRead
+mod CountsSpelled
 mod DotFormats
 mod EntryFormats
 mod EntrySteps
@@ -8,6 +11,7 @@ mod KeySteps
 mod ListFormats
 mod LongNumbers
 mod Loops
+mod MetInTurn
 mod NumbersSpelled
 mod RowAlgebra
 pub mod RowFormats

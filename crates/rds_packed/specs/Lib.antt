@@ -1,3 +1,6 @@
+pub mod CountSteady
+pub mod CountTexts
+pub mod CountsValue
 pub mod FrontSteady
 pub mod FrontTexts
 pub mod GoOn

@@ -4,8 +4,9 @@ ghost use Rattle.rds_dots.specs.Dots.{Dots};
 ghost use Rattle.rds_bytes.specs.OneText.{HasOneText};
 ghost use Rattle.rds_bytes.specs.Reading.{Reader};
 ghost use Rattle.rds_bytes.specs.Steady.{IsSteady};
-ghost use Rattle.rds_bytes.specs.Tabled.{IsShortTable, IsKeyOf, AreTabledRows};
+ghost use Rattle.rds_bytes.specs.Tabled.{IsShortTable, IsKeyOf, AreTabledRows, AreTabledCounts};
 ghost use Rattle.rds_bytes.specs.Values.{AreDotsOf};
+ghost use Rattle.rds_packed.specs.CountTexts.{packed_counters_at, packed_counters_text};
 ghost use Rattle.rds_packed.specs.FrontTexts.{packed_table_at, packed_table_text};
 ghost use Rattle.rds_packed.specs.PackedReading.{packed_key_at, packed_lives_at};
 ghost use Rattle.rds_packed.specs.PackedTexts.{packed_key_text, packed_lives_text};
@@ -56,4 +57,20 @@ pub fn packed_tables_have_one_text()
 /// The reader of tables of keys that share their fronts is steady. The function does nothing: its contract is the law.
 pub fn packed_tables_are_steady()
     ensures { IsSteady packed_table_at }
+{}
+
+/// Counters of so many replicas have one text over the packed numbers of a table's keys. The function does nothing: its
+/// contract is the law.
+pub fn packed_counters_have_one_text()
+    ensures { (table : List (List ℕ)) → IsShortTable table → (replicas : ℕ)
+        → HasOneText (packed_counters_at (packed_key_at table) replicas) (packed_counters_text (packed_key_text table))
+        (AreTabledCounts table replicas) }
+{
+    packed_numbers_have_one_text();
+}
+
+/// The readers of counters are steady for each steady reader of their keys. The function does nothing: its contract is
+/// the law.
+pub fn packed_counters_are_steady()
+    ensures { (key : Reader (List ℕ)) → IsSteady key → (replicas : ℕ) → IsSteady (packed_counters_at key replicas) }
 {}
