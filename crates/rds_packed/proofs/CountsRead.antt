@@ -1,12 +1,12 @@
 -- Rows of counters that were read by packed numbers are rows, and what they met was told.
-use Rattle.std.proofs.Common.{◌≡◌, ℕ, zero, suc, ◌<◌, Bool, true, false, cond, ltb, ◌&&◌, ◌||◌, List, [], ◌∷◌, ◌++◌, Option, Some, Ok, Err, refl, sym, ap, subst, ◌∙◌, append_assoc}
-use Rattle.std.specs.Prelude.{slice_get, fold, map as each}
+use Rattle.std.proofs.Common.{◌≡◌, ℕ, zero, suc, ◌<◌, Bool, true, false, cond, ltb, ◌&&◌, ◌||◌, List, [], ◌∷◌, ◌++◌, Option, Some, Ok, refl, sym, ap, subst, ◌∙◌, append_assoc}
+use Rattle.std.specs.Prelude.{slice_get, fold}
 use Rattle.std.proofs.lemmas.Bool.{lt-ltb}
 use Rattle.rds_names.specs.Conditions.{and_true, and_left, and_right}
 use Rattle.rds_counts.specs.declared.row.CountRow.{CountRow}
 use Rattle.rds_counts.specs.Counted.{is_row, row_before_next, rows_fit, AreCountRows}
 use Rattle.rds_counts.specs.CountedLemmas.{fits_rows, rows_fit_of}
-use Rattle.rds_life.specs.Life.{Lived, live_rows}
+use Rattle.rds_life.specs.Life.{live_rows}
 use Rattle.rds_bytes.specs.Packed.{packed_by, nothing_at, packed_up_to, packed_at}
 use Rattle.rds_bytes.specs.Reading.{Reader, then_at, pair_at, made_at, when_at, byte_at, last, comes_after_row, is_next_place, keyed_place_at, is_count, is_second, count_row_by}
 use Rattle.rds_bytes.specs.Table.{after_key, live_keys, counter_keys, used_keys}

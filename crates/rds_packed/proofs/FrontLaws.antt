@@ -1,7 +1,5 @@
 -- What keys share, and a table whose keys share their fronts xs a format.
-use Rattle.std.proofs.Common.{◌≡◌, ℕ, zero, suc, ◌+◌, ◌-◌, ◌^◌, ◌<◌, ◌≤◌, Bool, true, false, not, cond, eqb, leb, ◌&&◌, List, [], ◌∷◌, ◌++◌, length, take, drop, Option, Some, None, refl, sym, ap, subst, ◌∙◌, arith}
-use Rattle.std.specs.List.{common_prefix_len}
-use Rattle.std.specs.Prelude.{slice_get}
+use Rattle.std.proofs.Common.{◌≡◌, ℕ, zero, suc, ◌+◌, ◌-◌, ◌<◌, ◌≤◌, Bool, true, false, cond, eqb, leb, List, [], ◌∷◌, ◌++◌, length, take, drop, refl, sym, ap, ◌∙◌, arith}
 use Rattle.std.specs.Str.{is_utf8}
 use Rattle.std.proofs.lemmas.Bool.{leb-true, le-leb, eqb-true, eq-eqb}
 use Rattle.std.proofs.lemmas.Bool.Decides.{nat_tests}
@@ -12,11 +10,10 @@ use Rattle.rds_names.specs.Key.{is_key}
 use Rattle.rds_bytes.specs.OneText.{HasOneText}
 use Rattle.rds_bytes.specs.Packed.{packed_at, packed_text, HasPackedText}
 use Rattle.rds_bytes.specs.Reading.{byte_at, is_between, is_new, last, when_at}
-use Rattle.rds_bytes.specs.Table.{IsTable}
 use Rattle.rds_bytes.specs.Tabled.{IsShortTable}
 use Rattle.rds_bytes.specs.Values.{is_key_text, IsKeyText}
 use Rattle.rds_bytes.proofs.Format.{IsFormat, byte_format, then_format, made_format, when_format, refit}
-use Rattle.rds_bytes.proofs.Lists.{AllAfter, string_format}
+use Rattle.rds_bytes.proofs.Lists.{string_format}
 use Rattle.rds_bytes.proofs.PartFormats.{IsNewOf, all_pass, differ_of, new_of, last-push}
 use Rattle.rds_bytes.proofs.TabledFormats.{one_text}
 use Rattle.rds_packed.specs.FrontTexts as front

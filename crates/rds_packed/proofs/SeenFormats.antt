@@ -1,5 +1,5 @@
 -- A set of dots in few bytes is a format, so each set has one text.
-use Rattle.std.proofs.Common.{◌≡◌, ℕ, ◌+◌, ◌-◌, ◌^◌, ◌<◌, ◌≤◌, true, leb, ltb, List, [], ◌∷◌, ◌++◌, length, Option, Some, None, refl, sym, ap, subst, ◌∙◌, arith}
+use Rattle.std.proofs.Common.{◌≡◌, ℕ, ◌+◌, ◌-◌, ◌^◌, ◌<◌, ◌≤◌, true, leb, List, [], ◌∷◌, ◌++◌, length, Option, Some, None, refl, sym, ap, subst, ◌∙◌, arith}
 use Rattle.std.proofs.lemmas.Bool.{leb-true, ltb-true, le-leb, lt-ltb}
 use Rattle.rds_names.specs.Conditions.{and_true, and_left, and_right}
 use Rattle.rds_dots.specs.Dots.{Dots}
@@ -10,7 +10,7 @@ use Rattle.rds_bytes.specs.declared.dot_rows.RowHead.{RowHead}
 use Rattle.rds_bytes.specs.DotRows.{rows_from, CanCountAll}
 use Rattle.rds_bytes.specs.OneText.{HasOneText}
 use Rattle.rds_bytes.specs.Packed.{packed_at, packed_text, HasPackedText}
-use Rattle.rds_bytes.specs.Reading.{byte_at, when_at, is_between, is_end, is_next_replica, last, least_lo, least_replica, gap_by, row_by, row_head_by}
+use Rattle.rds_bytes.specs.Reading.{byte_at, is_between, is_end, is_next_replica, last, least_lo, least_replica, gap_by, row_by, row_head_by}
 use Rattle.rds_bytes.specs.RowDots.{dots_of_rows}
 use Rattle.rds_bytes.specs.SetRows.{GapsStand, RowStands, RowsStand}
 use Rattle.rds_bytes.proofs.Format.{IsFormat, byte_format, then_format, pair_format, made_format, when_format, refit}

@@ -1,5 +1,5 @@
 -- The gaps of a set of dots are no more than the bytes of its text.
-use Rattle.std.proofs.Common.{ℕ, ◌-◌, ◌<◌, ◌≤◌, ◌^◌, List, [], ◌∷◌, ◌++◌, length, arith, length-append, ap, ◌∙◌}
+use Rattle.std.proofs.Common.{ℕ, ◌-◌, ◌<◌, ◌≤◌, ◌^◌, List, [], ◌∷◌, length, arith, length-append, ap, ◌∙◌}
 use Rattle.std.specs.List.{flat_map}
 use Rattle.std.proofs.lemmas.List.Concat.{flat_map-cons}
 use Rattle.rds_dots.specs.Dots.{Dots}
@@ -8,7 +8,7 @@ use Rattle.rds_bytes.specs.declared.dots.Gap.{Gap}
 use Rattle.rds_bytes.specs.declared.dots.DotRow.{DotRow}
 use Rattle.rds_bytes.specs.DotRows.{rows_from, CanCountAll}
 use Rattle.rds_bytes.specs.Packed.{packed_text_up_to, packed_text}
-use Rattle.rds_packed.specs.SeenTexts.{packed_gap_text, packed_gaps_text, row_head_of, packed_head_text, packed_dot_row_text, packed_dot_rows_text, packed_dots_text}
+use Rattle.rds_packed.specs.SeenTexts.{packed_gap_text, packed_gaps_text, row_head_of, packed_head_text, packed_dot_row_text, packed_dots_text}
 
 packed_some : (n : ℕ) → 1 ≤ length (packed_text n)
 unfolding packed_text_up_to

@@ -1,6 +1,5 @@
 -- A set of dots in few bytes that is read row by row, and each row gap by gap.
-use Rattle.std.specs.Prelude.{ℕ, ◌^◌, nat_lt, if◌then◌else◌, List, Result, Ok, Err}
-use Rattle.rds_names.specs.declared.fault.Fault.{Fault}
+use Rattle.std.specs.Prelude.{ℕ}
 use Rattle.rds_bytes.specs.Reading.{Reader, made_at}
 use Rattle.rds_feeds.specs.Chained.{chain}
 use Rattle.rds_feeds.specs.Parts.{makes}

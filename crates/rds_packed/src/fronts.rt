@@ -52,7 +52,8 @@ pub fn put_front(out: &mut Vec<u8>, before: &[u8], key: &Key) -> Result<(), Allo
 
 /// How many bytes of the key before are shared.
 fn read_count<'a>(before: &[u8], bytes: &'a [u8]) -> Result<(u8, &'a [u8]), Fault>
-    ensures { ReadsExactly (λ x. (x.0, x.1.now)) result (when_at (λ n. nat_le n (length before.now)) byte_at bytes.now) }
+    ensures { ReadsExactly (λ x. (x.0, x.1.now)) result
+        (when_at (λ n. nat_le n (length before.now)) byte_at bytes.now) }
 {
     let (count, rest) = read_byte(bytes)?;
     if usize::from(count) > before.len() {

@@ -4,9 +4,9 @@
 //! To be read in this order: `keys`, which are read by their packed numbers; `dots`, each told from the one before it;
 //! `scalars`, what follows the head of an entry; `heads` and `entries`; `rows`, which measures, writes and reads live
 //! rows; `lives`, which are read row by row; `gaps`, each told from the one before it, and what a row of seen dots
-//! begins with; `sets`, which measures and writes seen dots; `seen`, which are read gap by gap; `fronts`, each key after
-//! another, and `tables` of such keys; `counters`, which measures, writes and reads rows of counters; `parts`, lives and
-//! counters by the numbers of one table; `laws`.
+//! begins with; `sets`, which measures and writes seen dots; `seen`, which are read gap by gap; `fronts`, each key
+//! after another, and `tables` of such keys; `counters`, which measures, writes and reads rows of counters; `parts`,
+//! lives and counters by the numbers of one table; `laws`.
 #![tactic(auto)]
 
 mod counters;

@@ -2,11 +2,10 @@
 ghost use Rattle.std.specs.Prelude.{◌≡◌, ℕ, List, [], Result, Ok, IfErr, OnOk, ◌≤◌};
 ghost use Rattle.rds_names.specs.declared.fault.Fault.{Fault};
 ghost use Rattle.rds_names.specs.declared.fault.Fault.TheVariants.{Memory};
-ghost use Rattle.rds_bytes.specs.Reading.{made_at};
 ghost use Rattle.rds_bytes.specs.RowDots.{first_after_gap, run_before};
 ghost use Rattle.rds_feeds.specs.Chained.{then_finish};
 ghost use Rattle.rds_feeds.specs.Parts.{makes};
-ghost use Rattle.rds_feeds.specs.SeenDots.{with_runs, begin_row, add_gap, end_row, whole_row};
+ghost use Rattle.rds_feeds.specs.SeenDots.{with_runs, begin_row, add_gap, whole_row};
 ghost use Rattle.rds_packed.specs.GoOn.{few_rows};
 ghost use Rattle.rds_packed.specs.SeenReading.{packed_gap_at, packed_head_at, packed_dots_at};
 ghost use Rattle.rds_packed.specs.SeenRows.{packed_gaps_of, next_packed_row};

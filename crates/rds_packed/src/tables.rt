@@ -8,7 +8,13 @@ ghost use Rattle.rds_feeds.specs.Chained.{then_finish};
 ghost use Rattle.rds_feeds.specs.Parts.{makes};
 ghost use Rattle.rds_packed.specs.GoOn.{few_rows};
 ghost use Rattle.rds_packed.specs.FrontSteady.{marked_front_at, marked_front_steady};
-ghost use Rattle.rds_packed.specs.FrontTexts.{fronts_text, packed_table_text, front_key_at, or_nothing, packed_table_at};
+ghost use Rattle.rds_packed.specs.FrontTexts.{
+  fronts_text,
+  packed_table_text,
+  front_key_at,
+  or_nothing,
+  packed_table_at,
+};
 
 use crate::fronts::{front_length, put_front, read_front};
 use crate::rows::count_length;

@@ -1,9 +1,6 @@
 use Rattle.std.proofs.Common.{◌++◌, List, length, ap, ◌∙◌}
-use Rattle.std.specs.Prelude.{ℕ}
 use Rattle.rds_counts.specs.declared.row.CountRow.{CountRow}
 use Rattle.rds_bytes.specs.Packed.{packed_text}
-use Rattle.rds_bytes.specs.Writing.{Adds}
-use Rattle.rds_packed.specs.CountTexts.{numbers_counts_text}
 use Rattle.rds_packed.proofs.CountsSpelled.{are_within, counters_added}
 use Rattle.rds_packed.proofs.counters.put_packed_counters.Goals as goal
 

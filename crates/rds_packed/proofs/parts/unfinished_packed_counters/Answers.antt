@@ -1,4 +1,4 @@
-use Rattle.std.proofs.Common.{ℕ, Option, List, ◌++◌, ◌∷◌, [], sym, ◌∙◌}
+use Rattle.std.proofs.Common.{ℕ, Option, ◌++◌, ◌∷◌, [], sym, ◌∙◌}
 use Rattle.rds_counts.specs.declared.row.CountRow.{CountRow}
 use Rattle.rds_counts.specs.Counted.{counts_of}
 use Rattle.rds_bytes.specs.Packed.{packed_at}

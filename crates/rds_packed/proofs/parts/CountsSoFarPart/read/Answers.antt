@@ -1,5 +1,4 @@
-use Rattle.std.proofs.Common.{◌≡◌, ◌∙◌, List, Ok, ap, sym, subst}
-use Rattle.rds_counts.specs.declared.row.CountRow.{CountRow}
+use Rattle.std.proofs.Common.{◌≡◌, ◌∙◌, Ok, ap, sym, subst}
 use Rattle.rds_bytes.specs.Reading.{made_at}
 use Rattle.rds_bytes.specs.TableValue.{TableValue, meeting}
 use Rattle.rds_feeds.specs.Numbered.{with_met}
