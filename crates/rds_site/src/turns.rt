@@ -164,6 +164,7 @@ where
     where
         H: Net,
     {
+        let file = self.logged.file;
         let is_other = self.logged.site.mark() != self.kept;
         if self.logged.site.has_changed() && self.clients.len() > FEW {
             self.reserve.let_go();
@@ -175,7 +176,7 @@ where
         };
         self.reserve.fill(rt);
         if is_other && self.stall.take().is_some() {
-            tell_end(rt, self.logged.file);
+            tell_end(rt, file);
         }
         let kept = Instant::now(rt).unwrap_or(self.now);
         tell(&committed, &mut self.clients, kept);
@@ -198,7 +199,10 @@ where
     fn hear(&mut self, rt: &H) {
         let was_behind = self.logged.is_behind;
         self.kept = self.logged.site.mark();
-        self.logged.stalled = self.stall.and_then(|stall| stall.left(self.now));
+        self.logged.stalled = match self.stall {
+            Some(stall) => stall.left(self.now),
+            None => None,
+        };
         self.logged.is_trying = self.stall.is_some();
         self.note();
         self.clients.hear(rt, &mut self.logged, self.now);
