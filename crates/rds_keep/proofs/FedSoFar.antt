@@ -10,21 +10,20 @@ use Rattle.rds_bytes.specs.Reading.{Reader, Reads}
 use Rattle.rds_codec.specs.Decoding.{Decodes, IsOtherFault, all_of}
 use Rattle.rds_codec.specs.Kinds.{Kind}
 use Rattle.rds_codec.specs.declared.limits.TheConstants.{LIMIT}
-use Rattle.rds_keep.specs.Counted.{CountedValue, most_read}
+use Rattle.rds_keep.specs.Counted.{ReadingValue, most_read}
 use Rattle.rds_codec.specs.Laws.{HasText}
 use Rattle.rds_keep.specs.Feeding.{FeedValue, EachIsByte, DecodesTexts, StandsFor, StandsOrFails, AddsPiece, RefusesPiece, IsDecoded, IsReadAs, IsRefused, Takes, Feeds, decoding}
 use Rattle.rds_keep.proofs.FeedSteps.{as_it_is, bytes-append}
 use Rattle.std.proofs.lemmas.Bool.{le-ltb}
 use Rattle.rds_keep.specs.Parts.{ConsumesAtMost}
 
-pub record IsFedSoFar {R U V : Type 0} (remaining : R → Option (List ℕ)) (finish : U → Reader V) (first now : CountedValue R) (begun feed : FeedValue U V) (most count : ℕ) : Type 0 where
+pub record IsFedSoFar {R U V : Type 0} (remaining : R → Option (List ℕ)) (finish : U → Reader V) (first now : ReadingValue R) (begun feed : FeedValue U V) (most count : ℕ) : Type 0 where
   pub fed : Feeds finish begun feed (remaining first.inner) (remaining now.inner) count
   pub room : count ≤ most
   pub spent : count ≤ most_read (first.left - now.left)
   pub steady : now.failed ≡ first.failed
   pub left : now.left ≤ first.left
   pub budget : now.budget ≡ first.budget
-  pub renamed : now.renamed ≡ first.renamed
 
 module _ {U V : Type 0} (finish : U → Reader V) where
   refused_more : (reader : Reader V) (came piece : List ℕ) (e : Fault) → IsRefused reader came e → IsRefused reader (came ++ piece) e

@@ -8,10 +8,10 @@ use Rattle.std.proofs.Transfers.{starts_with_length}
 use Rattle.std.proofs.lemmas.Bool.{cases_lt}
 use Rattle.std.proofs.Math.Seq.{take-append_seam, drop-append_seam}
 use Rattle.std.proofs.lemmas.List.{append-nil, length-append, length-drop, take-append-le, take_all, take_at}
-use Rattle.rds_keep.specs.Counted.{CountedValue, most_read}
+use Rattle.rds_keep.specs.Counted.{ReadingValue, most_read}
 use Rattle.rds_keep.specs.Parts.{ConsumesAtMost}
 
-pub record IsFrontSoFar {R : Type 0} (remaining : R → Option (List ℕ)) (first now : CountedValue R) (before front : List ℕ) (most : ℕ) : Type 0 where
+pub record IsFrontSoFar {R : Type 0} (remaining : R → Option (List ℕ)) (first now : ReadingValue R) (before front : List ℕ) (most : ℕ) : Type 0 where
   pub kept : StartsWith front before
   pub consumed : Consumes (remaining first.inner) (remaining now.inner) (appended_bytes before front)
   pub room : length front ≤ most
@@ -19,7 +19,6 @@ pub record IsFrontSoFar {R : Type 0} (remaining : R → Option (List ℕ)) (firs
   pub steady : now.failed ≡ first.failed
   pub left : now.left ≤ first.left
   pub budget : now.budget ≡ first.budget
-  pub renamed : now.renamed ≡ first.renamed
 
 -- a read that gave n bytes adds them to the front
 pub front_grows : (first now next : Option (List ℕ)) (before front given rest items : List ℕ) (n : ℕ) → StartsWith front before → Consumes first now (appended_bytes before front)

@@ -14,14 +14,14 @@ use Rattle.rds_codec.specs.declared.limits.TheConstants.{LIMIT}
 use Rattle.rds_feeds.specs.declared.unfinished.Progress.{Progress}
 use Rattle.rds_feeds.specs.declared.unfinished.Progress.TheVariants.{More, Whole}
 use Rattle.rds_feeds.specs.Pieces.{ReadsOn}
-use Rattle.rds_keep.specs.Counted.{CountedValue, most_read}
+use Rattle.rds_keep.specs.Counted.{ReadingValue, most_read}
 use Rattle.rds_keep.specs.Feeding.{EachIsByte}
 use Rattle.rds_keep.proofs.FeedSteps.{bytes-append}
 use Rattle.rds_keep.specs.Leading.{Leads, RefusesFront, RefusesStep}
 
 module _ {R U V : Type 0} (remaining : R → Option (List ℕ)) (finish : U → Reader V) where
   -- so far more bytes are wanted, of which some are held
-  pub record IsLedSoFar (begun : U) (front : List ℕ) (first now : CountedValue R) (unfinished : U) (held : List ℕ) (count : ℕ) (hasher : Sha256) (last : ℕ) : Type 0 where
+  pub record IsLedSoFar (begun : U) (front : List ℕ) (first now : ReadingValue R) (unfinished : U) (held : List ℕ) (count : ℕ) (hasher : Sha256) (last : ℕ) : Type 0 where
     pub given : List ℕ
     pub consumed : Consumes (remaining first.inner) (remaining now.inner) given
     pub same : (more : List ℕ) → finish begun (front ++ (given ++ more)) ≡ finish unfinished (held ++ more)
@@ -31,7 +31,6 @@ module _ {R U V : Type 0} (remaining : R → Option (List ℕ)) (finish : U → 
     pub steady : now.failed ≡ first.failed
     pub left : now.left ≤ first.left
     pub budget : now.budget ≡ first.budget
-    pub renamed : now.renamed ≡ first.renamed
     pub hashed : List ℕ
     pub holds : Holds256 hasher hashed
     pub parts : front ++ given ≡ hashed ++ drop last held

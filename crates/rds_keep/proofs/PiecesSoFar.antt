@@ -5,15 +5,12 @@ use Rattle.std.proofs.KnownBytes.{Appends-trans}
 use Rattle.std.proofs.lemmas.List.{take-append-le}
 use Rattle.std.proofs.Math.Seq.{take-append-add}
 use Rattle.rds_names.specs.declared.fault.Fault.{Fault}
-use Rattle.rds_keep.specs.Counted.{CountedValue}
+use Rattle.rds_keep.specs.Counted.{WritingValue}
 use Rattle.rds_keep.specs.Parts.{AppendsPart, pieces_text}
 
-pub record ArePiecesWritten {W : Type 0} (contents : W → Option (List ℕ)) (first now : CountedValue W) (pieces : List (Bor (List ℕ))) (at : ℕ) : Type 0 where
+pub record ArePiecesWritten {W : Type 0} (contents : W → Option (List ℕ)) (first now : WritingValue W) (pieces : List (Bor (List ℕ))) (at : ℕ) : Type 0 where
   pub written : Appends (contents first.inner) (contents now.inner) (pieces_text (take at pieces))
   pub steady : now.failed ≡ first.failed
-  pub budget : now.budget ≡ first.budget
-  pub left : now.left ≡ first.left
-  pub renamed : now.renamed ≡ first.renamed
 
 -- a piece, and then a part of the next one
 pub part_then : (first now next : Option (List ℕ)) (front piece rest : List ℕ) → Appends first now front → AppendsPart now next piece → AppendsPart first next (front ++ (piece ++ rest))

@@ -10,7 +10,7 @@ use Rattle.rds_codec.specs.FormatTexts.{Snapshot, snapshot_in_at, snapshot_kind_
 use Rattle.rds_codec.specs.declared.formats.Format.{Format}
 use Rattle.rds_codec.specs.declared.limits.TheConstants.{LIMIT}
 use Rattle.rds_bytes.specs.Reading.{Reader}
-use Rattle.rds_keep.specs.Counted.{CountedValue, HasFailed, most_read}
+use Rattle.rds_keep.specs.Counted.{HasFailed, most_read}
 use Rattle.rds_keep.specs.Feeding.{FeedValue, StandsFor, RefusesPiece, IsReadAs}
 use Rattle.rds_keep.specs.Snapshots.{IsForeign, IsMagic, IsShort, IsUnread, ReadsWhole, WantsMoreReads}
 use Rattle.rds_keep.proofs.Foreign.{foreign_is_bad, short_is_cut, not_hopeless}
@@ -97,5 +97,5 @@ input_bound (Some xs) (Some ys) front budget left room r own taken fewer some al
     unread r (why (omega (arith, many, same, four, fewer, some)) (omega (arith, within, four, fewer, some, all)))
 
 -- a call that failed later
-pub failed_later : {T : Type 0} (old mid new : CountedValue T) → mid.failed ≡ old.failed → HasFailed mid new → HasFailed old new
-failed_later old mid new same failed = elim failed [ inl more ↦ inl (subst (λ (n : ℕ). n < new.failed) same more) | inr full ↦ inr full ]
+pub failed_later : (old mid new : ℕ) → mid ≡ old → HasFailed mid new → HasFailed old new
+failed_later old mid new same failed = elim failed [ inl more ↦ inl (subst (λ (n : ℕ). n < new) same more) | inr full ↦ inr full ]

@@ -18,7 +18,7 @@ use Rattle.rds_journal.specs.Records.{IsPayload, record_text}
 use Rattle.rds_journal.specs.declared.records.TheConstants.{MOST, HEAD}
 use Rattle.rds_keep.specs.declared.sums.TheConstants.{SUM_LENGTH}
 use Rattle.rds_keep.specs.Changes.{ChangeValue, change_kind, change_text, roster_after}
-use Rattle.rds_keep.specs.Counted.{CountedValue, most_read}
+use Rattle.rds_keep.specs.Counted.{ReadingValue, most_read}
 use Rattle.rds_keep.specs.Kept.{AreMade, EndsAs, records_text}
 use Rattle.rds_keep.specs.Parts.{ConsumesAtMost}
 use Rattle.rds_keep.specs.ReadChanges.{HasNoText}
@@ -147,7 +147,7 @@ holds_more before after old new most kept consumed end room = record {
   end = λ few. end (omega (arith, few, room));
 }
 
-pub record IsReadSoFar {R : Type 0} (remaining : R → Option (List ℕ)) (old now : ReplayValue) (first reader : CountedValue R) (behind held : List ℕ) : Type 0 where
+pub record IsReadSoFar {R : Type 0} (remaining : R → Option (List ℕ)) (old now : ReplayValue) (first reader : ReadingValue R) (behind held : List ℕ) : Type 0 where
   pub read : ReadsRecords old now (remaining first.inner) (remaining reader.inner) behind held
   pub member : IsMember now.replica.roster now.replica.own
   pub end : length held ≤ MOST + HEAD → IsAtEnd (remaining reader.inner)
@@ -155,7 +155,6 @@ pub record IsReadSoFar {R : Type 0} (remaining : R → Option (List ℕ)) (old n
   pub steady : reader.failed ≡ first.failed
   pub left : reader.left ≤ first.left
   pub budget : reader.budget ≡ first.budget
-  pub renamed : reader.renamed ≡ first.renamed
 
 pub nothing_read : (old : ReplayValue) (known : Option (List ℕ)) (behind : List ℕ) → ReadsRecords old old known known behind behind
 nothing_read old known behind = record {

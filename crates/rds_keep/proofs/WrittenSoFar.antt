@@ -4,15 +4,12 @@ use Rattle.std.specs.Io.KnownBytes.{Appends}
 use Rattle.std.proofs.KnownBytes.{Appends-trans}
 use Rattle.std.proofs.Math.Seq.{take-add}
 use Rattle.std.proofs.lemmas.List.{take_all, length-drop}
-use Rattle.rds_keep.specs.Counted.{CountedValue}
+use Rattle.rds_keep.specs.Counted.{WritingValue}
 
-pub record IsWrittenSoFar {W : Type 0} (contents : W → Option (List ℕ)) (first now : CountedValue W) (bytes : List ℕ) (at : ℕ) : Type 0 where
+pub record IsWrittenSoFar {W : Type 0} (contents : W → Option (List ℕ)) (first now : WritingValue W) (bytes : List ℕ) (at : ℕ) : Type 0 where
   pub within : at ≤ length bytes
   pub written : Appends (contents first.inner) (contents now.inner) (take at bytes)
   pub steady : now.failed ≡ first.failed
-  pub budget : now.budget ≡ first.budget
-  pub left : now.left ≡ first.left
-  pub renamed : now.renamed ≡ first.renamed
 
 -- the bytes that are left
 rest_is : (bytes : List ℕ) (at : ℕ) → take (length bytes - at) (drop at bytes) ≡ drop at bytes

@@ -7,14 +7,14 @@ use Rattle.rds_codec.specs.DecodedSnapshots.{DecodesSnapshot}
 use Rattle.rds_codec.specs.FormatTexts.{format_of, magic_of}
 use Rattle.rds_codec.specs.declared.formats.Format.{Format}
 use Rattle.rds_codec.specs.declared.limits.TheConstants.{LIMIT}
-use Rattle.rds_keep.specs.Counted.{CountedValue, HasFailed, most_read}
+use Rattle.rds_keep.specs.Counted.{HasFailed, WritingValue, most_read}
 
 -- why a text wasn't written: TooLong only where it is above the limit, or memory ran out, both with the writer
 -- untouched; Device only where a call failed
-abbrev pub RefusesText : {T : Type 0} → List ℕ → CountedValue T → CountedValue T → Fault → Type 0
+abbrev pub RefusesText : {W : Type 0} → List ℕ → WritingValue W → WritingValue W → Fault → Type 0
 RefusesText text old new TooLong = (LIMIT < length text) × (new ≡ old)
 RefusesText text old new Memory = new ≡ old
-RefusesText text old new Device = (length text ≤ LIMIT) × HasFailed old new
+RefusesText text old new Device = (length text ≤ LIMIT) × HasFailed old.failed new.failed
 RefusesText text old new e = ⊥
 
 -- what snapshots of a format begin with

@@ -10,9 +10,9 @@ ghost use Rattle.rds_codec.specs.Laws.{HasText};
 ghost use Rattle.rds_keep.specs.Feeding.{AddsPiece, Feeds, IsReadAs, IsUnread, RefusesPiece, StandsFor, Takes};
 ghost use Rattle.rds_keep.specs.Parts.{ConsumesAtMost};
 
-use crate::counted::Counted;
 use crate::fed::Fed;
 use crate::feeds::Feed;
+use crate::reading::Reading;
 use rds_feeds::Unfinished;
 use rds_names::Fault;
 use std::io::Read;
@@ -34,7 +34,7 @@ fn feed_all<U: Unfinished>(feed: &mut Feed<U>, piece: &[u8]) -> Result<(), Fault
     }
 }
 
-impl<R: Read> Counted<R> {
+impl<R: Read> Reading<R> {
     /// Reads on: what the reader gives is fed, to its end or until so many bytes have come, and how many came is
     /// answered. It spends the budget of a loop that its caller began.
     ///
@@ -52,11 +52,10 @@ impl<R: Read> Counted<R> {
         ensures end { IfOk result (λ count. count < most → IsAtEnd (R.remaining self.new.inner)) }
         ensures most { ConsumesAtMost (R.remaining self.old.inner) (R.remaining self.new.inner) most }
         ensures fault { IfErr result (λ e. ((e ≡ Memory) × (self.new.failed ≡ self.old.failed))
-            ⊎ ((e ≡ Device) × HasFailed self.old self.new)) }
+            ⊎ ((e ≡ Device) × HasFailed self.old.failed self.new.failed)) }
         ensures steady { OnOk result (self.new.failed ≡ self.old.failed) }
         ensures left { self.new.left ≤ self.old.left }
         ensures budget { self.new.budget ≡ self.old.budget }
-        ensures renamed { self.new.renamed ≡ self.old.renamed }
     {
         let mut chunk = [0u8; CHUNK];
         let mut count = 0;
@@ -90,7 +89,7 @@ pub(crate) fn fed_with<U: Unfinished>(feed: Feed<U>, piece: &[u8]) -> Result<Fee
 ///
 /// Refuses as decoding does for all of the bytes: they are read to their end, or to one more than a text may have, also
 /// where the feed refuses them earlier. A read that fails, and more reads than its budget, are `Device`.
-pub fn read_fed<U: Fed, R: Read>(feed: Feed<U>, reader: &mut Counted<R>) -> Result<U::Whole, Fault>
+pub fn read_fed<U: Fed, R: Read>(feed: Feed<U>, reader: &mut Reading<R>) -> Result<U::Whole, Fault>
     ensures whole { (format : Format) (replicas : ℕ) (came : List ℕ)
         → StandsFor U.finish (U.reader format replicas) feed came
         → IfSome (R.remaining reader.old.inner)
@@ -106,10 +105,9 @@ pub fn read_fed<U: Fed, R: Read>(feed: Feed<U>, reader: &mut Counted<R>) -> Resu
         → IfErr result (λ e. (e ≡ Device) ⊎ IsOtherFault e) }
     ensures counted { (format : Format) (replicas : ℕ) (came : List ℕ)
         → StandsFor U.finish (U.reader format replicas) feed came
-        → result ≡ Err Device → HasFailed reader.old reader.new }
+        → result ≡ Err Device → HasFailed reader.old.failed reader.new.failed }
     ensures steady { result ≢ Err Device → reader.new.failed ≡ reader.old.failed }
     ensures budget { reader.new.budget ≡ reader.old.budget }
-    ensures renamed { reader.new.renamed ≡ reader.old.renamed }
 {
     let mut feed = feed;
     let most = feed.left().saturating_add(1);

@@ -7,10 +7,10 @@ ghost use Rattle.rds_keep.specs.Parts.{AppendsFront};
 ghost use Rattle.rds_keep.specs.Snapshots.{RefusesText};
 ghost use Rattle.rds_keep.specs.Sums.{file_text};
 
-use crate::counted::Counted;
 use crate::kept::Kept;
 use crate::place::Place;
 use crate::sums::encode_file;
+use crate::writing::Placing;
 use rds_dots::DotSet;
 use rds_names::Fault;
 use rds_state::Replica;
@@ -25,20 +25,19 @@ use std::alloc::Global;
 pub fn keep_in<S: DotSet, P: Place>(
     alloc: Global,
     replica: Replica<S>,
-    place: &mut Counted<P>,
+    place: &mut Placing<P>,
 ) -> Result<Kept<S>, Fault>
     requires { place.old.renamed ≡ false }
     ensures kept { IfOk result (λ kept. kept ≡ replica) }
-    ensures bytes { OnOk result (Appends (P.contents place.old.inner)
-        (P.contents place.new.inner) (file_text replica)) }
-    ensures place { OnOk result (P.renamed place.new.inner ≡ true) }
+    ensures bytes { OnOk result (Appends (P.contents place.old.writing.inner)
+        (P.contents place.new.writing.inner) (file_text replica)) }
+    ensures place { OnOk result (P.renamed place.new.writing.inner ≡ true) }
     ensures renamed { place.new.renamed ≡ is_ok result }
-    ensures front { OnErr result (AppendsFront (P.contents place.old.inner)
-        (P.contents place.new.inner) (file_text replica)) }
+    ensures front { OnErr result (AppendsFront (P.contents place.old.writing.inner)
+        (P.contents place.new.writing.inner) (file_text replica)) }
     ensures limit { OnOk result (length (snapshot_text replica) ≤ LIMIT) }
-    ensures refused { IfErr result (RefusesText (snapshot_text replica) place.old place.new) }
-    ensures steady { OnOk result (place.new.failed ≡ place.old.failed) }
-    ensures budget { place.new.budget ≡ place.old.budget }
+    ensures refused { IfErr result (RefusesText (snapshot_text replica) place.old.writing place.new.writing) }
+    ensures steady { OnOk result (place.new.writing.failed ≡ place.old.writing.failed) }
 {
     let bytes = encode_file(alloc, &replica)?;
     place.write_all(bytes.as_slice())?;

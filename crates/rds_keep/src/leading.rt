@@ -9,7 +9,7 @@ ghost use Rattle.rds_keep.specs.Counted.{HasFailed, most_read};
 ghost use Rattle.rds_keep.specs.Feeding.{EachIsByte};
 ghost use Rattle.rds_keep.specs.Leading.{Leads, RefusesFront, RefusesStep};
 
-use crate::counted::Counted;
+use crate::reading::Reading;
 use rds_codec::LIMIT;
 use rds_feeds::{Progress, Unfinished};
 use rds_names::Fault;
@@ -74,7 +74,7 @@ pub fn decode_leading<U: Unfinished>(
     }
 }
 
-impl<R: Read> Counted<R> {
+impl<R: Read> Reading<R> {
     /// Reads the value that the front and all that the reader holds begin with, and no more than a block behind it. It
     /// spends the budget of a loop that its caller began.
     ///
@@ -92,11 +92,10 @@ impl<R: Read> Counted<R> {
             (λ input. RefusesFront (U.finish unfinished) (front.items ++ input) e)) }
         ensures bound { IfOk result (λ x. x.count ≤ length front.items + most_read (self.old.left - self.new.left)) }
         ensures fault { IfErr result (λ e. (e ≡ Device) ⊎ IsOtherFault e) }
-        ensures counted { result ≡ Err Device → HasFailed self.old self.new }
+        ensures counted { result ≡ Err Device → HasFailed self.old.failed self.new.failed }
         ensures steady { result ≢ Err Device → self.new.failed ≡ self.old.failed }
         ensures left { self.new.left ≤ self.old.left }
         ensures budget { self.new.budget ≡ self.old.budget }
-        ensures renamed { self.new.renamed ≡ self.old.renamed }
     {
         let mut unfinished = unfinished;
         let mut count = front.len();

@@ -4,15 +4,16 @@
 
 mod change;
 mod changed;
-mod counted;
 mod fed;
 mod feeding;
 mod feeds;
+mod fronts;
 mod keeping;
 mod kept;
 mod layout;
 mod leading;
 mod past;
+mod pieces;
 mod place;
 mod reading;
 mod replay;
@@ -24,7 +25,6 @@ mod writing;
 
 pub use change::Change;
 pub use changed::{Changed, encode_record};
-pub use counted::Counted;
 pub use fed::Fed;
 pub use feeding::read_fed;
 pub use feeds::Feed;
@@ -33,6 +33,8 @@ pub use kept::Kept;
 pub use layout::Layout;
 pub use past::{Past, WasKept};
 pub use place::Place;
+pub use reading::Reading;
 pub use snapshots::{read_snapshot, write_snapshot};
 pub use stored::{Refused, Stored, decode_stored, read_stored};
 pub use sums::{SUM_LENGTH, encode_file};
+pub use writing::{Placing, Writing};

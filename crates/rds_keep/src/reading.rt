@@ -1,79 +1,115 @@
-//! Many calls of a reader, one after the other.
-ghost use Rattle.std.specs.Prelude.{◌≡◌, ◌+◌, ◌-◌, ◌<◌, ◌≤◌, ◌⊎◌, length, take, IfOk, IfErr, IfSome, OnOk};
-ghost use Rattle.std.specs.Io.{StartsWith, appended_bytes};
-ghost use Rattle.std.specs.Io.KnownBytes.{Consumes, IsAtEnd};
-ghost use Rattle.rds_names.specs.declared.fault.Fault.TheVariants.{Memory, Device};
-ghost use Rattle.rds_keep.specs.Counted.{HasFailed, most_read};
-ghost use Rattle.rds_keep.specs.Parts.{ConsumesAtMost};
+//! A reader, with a count of the calls on it that failed. Only what stands here can raise the count; `fronts`,
+//! `feeding` and `leading`, which make calls one after the other, can't.
+ghost use Rattle.std.specs.Prelude.{◌≡◌, ◌-◌, ◌<◌, ◌≤◌, length, IfOk, IfErr, OnOk, OnErr};
+ghost use Rattle.std.specs.Io.KnownBytes.{ReadConsumes};
+ghost use Rattle.rds_names.specs.declared.fault.Fault.TheVariants.{Device};
+ghost use Rattle.rds_keep.specs.Counted.{one_more};
 
-use crate::counted::Counted;
 use rds_names::Fault;
-use std::alloc::Global;
 use std::io::Read;
+use std::marker::Model;
 
-/// How many bytes one call of a reader is asked for.
-const CHUNK: usize = 65_536;
+/// How many reads a loop may make where nothing else is said.
+const BUDGET: u64 = 2_147_483_648;
 
-impl<R: Read> Counted<R> {
-    /// The first bytes of all that the reader holds, at most so many. It reads to the end or until
-    /// it has them, each byte into its place once, within the reader's budget (`Device`
-    /// where that doesn't do, and where a read fails). It takes no byte more from the reader, also
-    /// where it fails.
-    pub fn read_front(&mut self, alloc: Global, most: usize) -> Result<Vec<u8>, Fault>
-        ensures front { IfOk result (λ v. IfSome (R.remaining self.old.inner)
-            (λ input. v.items ≡ take most input)) }
-        ensures bytes { IfOk result (λ v. Consumes (R.remaining self.old.inner)
-            (R.remaining self.new.inner) v.items) }
-        ensures within { IfOk result (λ v. length v.items ≤ most) }
-        ensures bound { IfOk result (λ v. length v.items ≤ most_read (self.old.budget - self.new.left)) }
-        ensures end { IfOk result (λ v. length v.items < most → IsAtEnd (R.remaining self.new.inner)) }
-        ensures most { ConsumesAtMost (R.remaining self.old.inner) (R.remaining self.new.inner) most }
-        ensures fault { IfErr result (λ e. ((e ≡ Memory) × (self.new.failed ≡ self.old.failed))
-            ⊎ ((e ≡ Device) × HasFailed self.old self.new)) }
-        ensures steady { OnOk result (self.new.failed ≡ self.old.failed) }
-        ensures left { self.new.left ≤ self.old.budget }
-        ensures budget { self.new.budget ≡ self.old.budget }
-        ensures renamed { self.new.renamed ≡ self.old.renamed }
+/// A reader. It counts the calls on it that failed, and has a budget of the reads that a loop over it makes: one more
+/// counts as a call that failed. Nothing else makes the count rise. A full count stays, and is to be taken as risen.
+#[derive(Drop)]
+pub struct Reading<R> {
+    inner: R,
+    failed: u64,
+    budget: u64,
+    left: u64,
+}
+
+impl<R> Model for Reading<R> {
+    ghost use Rattle.rds_keep.specs.Counted.{ReadingValue, reading_code};
+
+    ghost Value = { ReadingValue R };
+
+    ghost coded = { reading_code R.code };
+
+    ghost view = { λ c. record {
+      inner = c.inner;
+      failed = c.failed;
+      budget = c.budget;
+      left = c.left;
+    } };
+}
+
+impl<R> Reading<R> {
+    /// Counts from 0, with the usual budget: 2,147,483,648.
+    pub fn new(inner: R) -> Reading<R>
+        ensures { result ≡ record { inner = inner; failed = 0; budget = 2147483648; left = 2147483648 } }
     {
-        let mut front = Vec::new(alloc);
-        self.renew_budget();
-        self.read_on(&mut front, most)?;
-        Ok(front)
+        Reading::with_budget(inner, BUDGET)
     }
 
-    /// Reads on: what the reader gives goes behind the bytes of the front, to its end or until the
-    /// front has so many. It spends the budget of a loop that its caller began. Where it fails, the front
-    /// may lack bytes that were read.
-    pub(crate) fn read_on(&mut self, front: &mut Vec<u8>, most: usize) -> Result<(), Fault>
-        requires { length front.old.items ≤ most }
-        ensures appends { OnOk result (StartsWith front.new.items front.old.items) }
-        ensures bytes { OnOk result (Consumes (R.remaining self.old.inner) (R.remaining self.new.inner)
-            (appended_bytes front.old.items front.new.items)) }
-        ensures within { OnOk result (length front.new.items ≤ most) }
-        ensures bound { OnOk result (length front.new.items
-            ≤ length front.old.items + most_read (self.old.left - self.new.left)) }
-        ensures end { OnOk result (length front.new.items < most
-            → IsAtEnd (R.remaining self.new.inner)) }
-        ensures most { ConsumesAtMost (R.remaining self.old.inner) (R.remaining self.new.inner)
-            (most - length front.old.items) }
-        ensures fault { IfErr result (λ e. ((e ≡ Memory) × (self.new.failed ≡ self.old.failed))
-            ⊎ ((e ≡ Device) × HasFailed self.old self.new)) }
-        ensures steady { OnOk result (self.new.failed ≡ self.old.failed) }
-        ensures left { self.new.left ≤ self.old.left }
-        ensures budget { self.new.budget ≡ self.old.budget }
-        ensures renamed { self.new.renamed ≡ self.old.renamed }
+    /// Counts from 0, with this budget.
+    pub fn with_budget(inner: R, budget: u64) -> Reading<R>
+        ensures { result ≡ record { inner = inner; failed = 0; budget = budget; left = budget } }
     {
-        let mut chunk = [0u8; CHUNK];
-        'turns: loop {
-            let room = (most - front.len()).min(CHUNK);
-            if room == 0 {
-                return Ok(());
-            }
-            let taken = self.read(&mut chunk[..room])?;
-            if taken == 0 {
-                return Ok(());
-            }
-            front.extend_from_slice(&chunk[..taken])?;
+        Reading {
+            inner,
+            failed: 0,
+            budget,
+            left: budget,
+        }
+    }
+
+    /// How many calls failed.
+    pub fn failed(&self) -> u64
+        ensures { result ≡ self.now.failed }
+    {
+        self.failed
+    }
+
+    /// How many reads a loop may make.
+    pub fn budget(&self) -> u64
+        ensures { result ≡ self.now.budget }
+    {
+        self.budget
+    }
+
+    /// A loop of reads begins: from here on it may make as many as the bound says.
+    pub fn renew_budget(&mut self)
+        ensures { self.new ≡ record self.old { left = self.old.budget } }
+    {
+        self.left = self.budget;
+    }
+
+    // Counts a failure, and names its fault.
+    fn fail(&mut self) -> Fault
+        ensures fault { result ≡ Device }
+        ensures counted { self.new ≡ record self.old { failed = one_more self.old.failed } }
+    {
+        self.failed = self.failed.saturating_add(1);
+        Fault::Device
+    }
+}
+
+impl<R: Read> Reading<R> {
+    /// One call of the reader's `read`, which takes a turn. Whatever it fails by is `Device`, and so is
+    /// a read for which no turn is left: then the reader isn't called.
+    pub fn read(&mut self, buf: &mut [u8]) -> Result<usize, Fault>
+        ensures bound { IfOk result (λ n. n ≤ length buf.new) }
+        ensures bytes { ReadConsumes (R.remaining self.old.inner) (R.remaining self.new.inner)
+            result buf.new }
+        ensures fault { IfErr result (λ e. e ≡ Device) }
+        ensures spent { self.old.left ≡ 0 → self.new.inner ≡ self.old.inner }
+        ensures turn { OnOk result (0 < self.old.left) }
+        ensures left { self.new.left ≡ self.old.left - 1 }
+        ensures steady { OnOk result (self.new.failed ≡ self.old.failed) }
+        ensures counted { OnErr result (self.new.failed ≡ one_more self.old.failed) }
+        ensures budget { self.new.budget ≡ self.old.budget }
+    {
+        if self.left == 0 {
+            return Err(self.fail());
+        }
+        self.left -= 1;
+        match self.inner.read(buf) {
+            Ok(n) => Ok(n),
+            Err(_) => Err(self.fail()),
         }
     }
 }

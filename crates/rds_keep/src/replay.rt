@@ -13,7 +13,7 @@ ghost use Rattle.rds_keep.specs.Parts.{ConsumesAtMost};
 ghost use Rattle.rds_keep.specs.Replay.{HoldsMore, Loses, ReadsRecords, Redoes, RefusesPayload, StopsAtRecord, StopsReading, TakesRecords};
 
 use crate::change::{ReadChange, decode_change};
-use crate::counted::Counted;
+use crate::reading::Reading;
 use rds_dots::DotSet;
 use rds_journal::{HEAD, MOST, first_record, record_length};
 use rds_names::{Fault, Roster};
@@ -75,18 +75,17 @@ fn end_of_record(begin: u64, payload: &[u8]) -> Result<u64, Fault>
 }
 
 /// Reads on until so many bytes are held that a record would be whole, or to the end.
-pub fn hold_more<R: Read>(reader: &mut Counted<R>, held: &mut Vec<u8>) -> Result<(), Fault>
+pub fn hold_more<R: Read>(reader: &mut Reading<R>, held: &mut Vec<u8>) -> Result<(), Fault>
     ensures more { OnOk result (HoldsMore (R.remaining reader.old.inner) (R.remaining reader.new.inner)
         held.old.items held.new.items) }
     ensures bound { OnOk result (length held.new.items
         ≤ length held.old.items + most_read (reader.old.left - reader.new.left)) }
     ensures lost { OnErr result (Loses (R.remaining reader.old.inner) (R.remaining reader.new.inner)) }
     ensures fault { IfErr result (λ e. ((e ≡ Memory) × (reader.new.failed ≡ reader.old.failed))
-        ⊎ ((e ≡ Device) × HasFailed reader.old reader.new)) }
+        ⊎ ((e ≡ Device) × HasFailed reader.old.failed reader.new.failed)) }
     ensures steady { OnOk result (reader.new.failed ≡ reader.old.failed) }
     ensures left { reader.new.left ≤ reader.old.left }
     ensures budget { reader.new.budget ≡ reader.old.budget }
-    ensures renamed { reader.new.renamed ≡ reader.old.renamed }
 {
     let most = held.len().max(HELD);
     reader.read_on(held, most)?;
@@ -168,7 +167,7 @@ impl<S: DotSet> Replay<S> {
     pub fn read_records<R: Read>(
         &mut self,
         alloc: Global,
-        reader: &mut Counted<R>,
+        reader: &mut Reading<R>,
         behind: Vec<u8>,
     ) -> Result<Vec<u8>, Fault>
         requires member { IsMember self.old.replica.roster self.old.replica.own }
@@ -181,11 +180,10 @@ impl<S: DotSet> Replay<S> {
             (R.remaining reader.new.inner) behind.items) }
         ensures bound { OnOk result (ConsumesAtMost (R.remaining reader.old.inner) (R.remaining reader.new.inner)
             (most_read (reader.old.left - reader.new.left))) }
-        ensures counted { result ≡ Err Device → HasFailed reader.old reader.new }
+        ensures counted { result ≡ Err Device → HasFailed reader.old.failed reader.new.failed }
         ensures steady { result ≢ Err Device → reader.new.failed ≡ reader.old.failed }
         ensures left { reader.new.left ≤ reader.old.left }
         ensures budget { reader.new.budget ≡ reader.old.budget }
-        ensures renamed { reader.new.renamed ≡ reader.old.renamed }
     {
         let mut held = behind;
         'reading: loop {

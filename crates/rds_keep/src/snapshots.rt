@@ -14,10 +14,11 @@ ghost use Rattle.rds_keep.specs.Kept.{IsKept};
 ghost use Rattle.rds_keep.specs.Parts.{AppendsPart, ConsumesAtMost};
 ghost use Rattle.rds_keep.specs.Snapshots.{IsForeign, IsMagic, IsShort, IsUnread, ReadsWhole, RefusesText, WantsMoreReads};
 
-use crate::counted::Counted;
 use crate::feeding::{fed_with, read_fed};
 use crate::feeds::Feed;
 use crate::kept::Kept;
+use crate::reading::Reading;
+use crate::writing::Writing;
 use rds_bytes::MAGIC;
 use rds_codec::{encode_snapshot, read_format};
 use rds_dots::DotSet;
@@ -44,7 +45,7 @@ pub(crate) fn text_can_be_kept<S: DotSet>(replica: &Replica<S>, text: &[u8])
 pub fn write_snapshot<S: DotSet, W: Write>(
     alloc: Global,
     replica: Replica<S>,
-    writer: &mut Counted<W>,
+    writer: &mut Writing<W>,
 ) -> Result<Kept<S>, Fault>
     ensures kept { IfOk result (λ kept. kept ≡ replica) }
     ensures bytes { OnOk result (Appends (W.contents writer.old.inner)
@@ -54,8 +55,6 @@ pub fn write_snapshot<S: DotSet, W: Write>(
     ensures limit { OnOk result (length (snapshot_text replica) ≤ LIMIT) }
     ensures refused { IfErr result (RefusesText (snapshot_text replica) writer.old writer.new) }
     ensures steady { OnOk result (writer.new.failed ≡ writer.old.failed) }
-    ensures budget { writer.new.budget ≡ writer.old.budget }
-    ensures renamed { writer.new.renamed ≡ writer.old.renamed }
     ensures small { replica.state.lives ≡ map.empty → replica.state.counts ≡ map.empty
         → IfErr result (λ fault. (fault ≡ Memory) ⊎ (fault ≡ Device)) }
 {
@@ -69,7 +68,7 @@ pub fn write_snapshot<S: DotSet, W: Write>(
 /// Reads the first four bytes of all that the reader holds, by which a snapshot says its format.
 ///
 /// Refuses `Cut` where there are fewer, and `Bad` where they are those of no format.
-pub(crate) fn read_magic<R: Read>(alloc: Global, reader: &mut Counted<R>) -> Result<Vec<u8>, Fault>
+pub(crate) fn read_magic<R: Read>(alloc: Global, reader: &mut Reading<R>) -> Result<Vec<u8>, Fault>
     ensures magic { IfOk result (λ front. IsMagic front.items) }
     ensures bytes { IfOk result (λ front. Consumes (R.remaining reader.old.inner)
         (R.remaining reader.new.inner) front.items) }
@@ -80,11 +79,10 @@ pub(crate) fn read_magic<R: Read>(alloc: Global, reader: &mut Counted<R>) -> Res
     ensures foreign { IfSome (R.remaining reader.old.inner) (λ input. IsForeign input
         → ConsumesAtMost (R.remaining reader.old.inner) (R.remaining reader.new.inner) 4) }
     ensures fault { IfErr result (λ e. (e ≡ Bad) ⊎ ((e ≡ Cut) ⊎ ((e ≡ Memory) ⊎ (e ≡ Device)))) }
-    ensures counted { result ≡ Err Device → HasFailed reader.old reader.new }
+    ensures counted { result ≡ Err Device → HasFailed reader.old.failed reader.new.failed }
     ensures steady { result ≢ Err Device → reader.new.failed ≡ reader.old.failed }
     ensures left { reader.new.left ≤ reader.old.budget }
     ensures budget { reader.new.budget ≡ reader.old.budget }
-    ensures renamed { reader.new.renamed ≡ reader.old.renamed }
 {
     let front = reader.read_front(alloc, MAGIC.len())?;
     let (_format, _rest) = read_format(front.as_slice())?;
@@ -101,7 +99,7 @@ pub(crate) fn read_magic<R: Read>(alloc: Global, reader: &mut Counted<R>) -> Res
 /// What was read in format 1 may have too long a text in format 2, which is what is written.
 pub fn read_snapshot<S: DotSet, R: Read>(
     alloc: Global,
-    reader: &mut Counted<R>,
+    reader: &mut Reading<R>,
 ) -> Result<Kept<S>, Fault>
     ensures text { IfOk result (λ kept. IfSome (R.remaining reader.old.inner)
         (λ input. (format : Format) × (input ≡ snapshot_text_in format kept))) }
@@ -113,10 +111,9 @@ pub fn read_snapshot<S: DotSet, R: Read>(
         → ConsumesAtMost (R.remaining reader.old.inner) (R.remaining reader.new.inner) 4) }
     ensures end { OnOk result (IsAtEnd (R.remaining reader.new.inner)) }
     ensures fault { IfErr result (λ e. (e ≡ Device) ⊎ IsOtherFault e) }
-    ensures counted { result ≡ Err Device → HasFailed reader.old reader.new }
+    ensures counted { result ≡ Err Device → HasFailed reader.old.failed reader.new.failed }
     ensures steady { result ≢ Err Device → reader.new.failed ≡ reader.old.failed }
     ensures budget { reader.new.budget ≡ reader.old.budget }
-    ensures renamed { reader.new.renamed ≡ reader.old.renamed }
 {
     let front = read_magic(alloc, reader)?;
     let feed = fed_with(Feed::snapshot(alloc), front.as_slice())?;

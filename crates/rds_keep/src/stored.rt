@@ -19,10 +19,10 @@ ghost use Rattle.rds_keep.specs.Stored.{IsAllOf, IsSummedSnapshot, IsFront, Lose
 ghost use Rattle.rds_keep.specs.Sums.{CutsSum};
 ghost use Rattle.rds_keep.specs.declared.sums.TheConstants.{SUM_LENGTH};
 
-use crate::counted::Counted;
 use crate::kept::Kept;
 use crate::layout::Layout;
 use crate::leading::{Leading, decode_leading, hold_bytes};
+use crate::reading::Reading;
 use crate::replay::{Replay, hold_more};
 use crate::snapshots::read_magic;
 use crate::sums::{SUM_LENGTH, behind_sum, cuts_sum, may_cut_sum};
@@ -113,7 +113,7 @@ fn sum_of(hasher: Sha256, last: &[u8], behind: usize) -> [u8; 32]
 // Reads the snapshot that all that the reader holds begins with, and some bytes behind it.
 fn read_first<S: DotSet, R: Read>(
     alloc: Global,
-    reader: &mut Counted<R>,
+    reader: &mut Reading<R>,
 ) -> Result<(First<S>, Vec<u8>), Fault>
     ensures loses { IfOk result (λ x. LosesFirst (R.remaining reader.old.inner) (R.remaining reader.new.inner)
         x.0.format x.0.replica x.1.items) }
@@ -126,11 +126,10 @@ fn read_first<S: DotSet, R: Read>(
     ensures foreign { IfSome (R.remaining reader.old.inner) (λ input. IsForeign input
         → ConsumesAtMost (R.remaining reader.old.inner) (R.remaining reader.new.inner) 4) }
     ensures fault { IfErr result (λ e. (e ≡ Device) ⊎ IsOtherFault e) }
-    ensures counted { result ≡ Err Device → HasFailed reader.old reader.new }
+    ensures counted { result ≡ Err Device → HasFailed reader.old.failed reader.new.failed }
     ensures steady { result ≢ Err Device → reader.new.failed ≡ reader.old.failed }
     ensures left { reader.new.left ≤ reader.old.budget }
     ensures budget { reader.new.budget ≡ reader.old.budget }
-    ensures renamed { reader.new.renamed ≡ reader.old.renamed }
 {
     let front = read_magic(alloc, reader)?;
     let leading = reader.read_leading(alloc, unfinished_snapshot::<S>(), front)?;
@@ -230,7 +229,7 @@ fn take_sum<S: DotSet>(
 // bytes behind them.
 fn read_front<S: DotSet, R: Read>(
     alloc: Global,
-    reader: &mut Counted<R>,
+    reader: &mut Reading<R>,
 ) -> Result<(Front<S>, Vec<u8>), Fault>
     ensures loses { IfOk result (λ x. LosesFront (R.remaining reader.old.inner) (R.remaining reader.new.inner)
         x.0.format x.0.is_summed x.0.replica x.1.items) }
@@ -244,11 +243,10 @@ fn read_front<S: DotSet, R: Read>(
     ensures foreign { IfSome (R.remaining reader.old.inner) (λ input. IsForeign input
         → ConsumesAtMost (R.remaining reader.old.inner) (R.remaining reader.new.inner) 4) }
     ensures fault { IfErr result (λ e. (e ≡ Device) ⊎ IsOtherFault e) }
-    ensures counted { result ≡ Err Device → HasFailed reader.old reader.new }
+    ensures counted { result ≡ Err Device → HasFailed reader.old.failed reader.new.failed }
     ensures steady { result ≢ Err Device → reader.new.failed ≡ reader.old.failed }
     ensures left { reader.new.left ≤ reader.old.budget }
     ensures budget { reader.new.budget ≡ reader.old.budget }
-    ensures renamed { reader.new.renamed ≡ reader.old.renamed }
 {
     let (first, behind) = read_first(alloc, reader)?;
     let (front, rest) = take_sum(alloc, first, &behind)?;
@@ -304,7 +302,7 @@ fn ended<S: DotSet>(
 // Reads the records behind a front.
 fn read_behind<S: DotSet, R: Read>(
     alloc: Global,
-    reader: &mut Counted<R>,
+    reader: &mut Reading<R>,
     front: Front<S>,
     behind: Vec<u8>,
 ) -> Result<Stored<S>, Refused>
@@ -323,12 +321,11 @@ fn read_behind<S: DotSet, R: Read>(
     ensures at { IfErr result (λ r. IfSome (R.remaining reader.old.inner)
         (λ input. AreWhole (front_and front.format front.is_summed front.replica (behind.items ++ input)) r.at)) }
     ensures fault { IfErr result (λ r. (r.fault ≡ Device) ⊎ IsOtherFault r.fault) }
-    ensures counted { IfErr result (λ r. r.fault ≡ Device → HasFailed reader.old reader.new) }
+    ensures counted { IfErr result (λ r. r.fault ≡ Device → HasFailed reader.old.failed reader.new.failed) }
     ensures steady { MatchResult result (λ _. reader.new.failed ≡ reader.old.failed)
         (λ r. r.fault ≢ Device → reader.new.failed ≡ reader.old.failed) }
     ensures left { reader.new.left ≤ reader.old.left }
     ensures budget { reader.new.budget ≡ reader.old.budget }
-    ensures renamed { reader.new.renamed ≡ reader.old.renamed }
 {
     let Front {
         format,
@@ -357,7 +354,7 @@ fn read_behind<S: DotSet, R: Read>(
 /// that fails, and more reads than the reader's budget, are `Device`.
 pub fn read_stored<S: DotSet, R: Read>(
     alloc: Global,
-    reader: &mut Counted<R>,
+    reader: &mut Reading<R>,
 ) -> Result<Stored<S>, Refused>
     ensures stored { IfOk result (λ s. IfSome (R.remaining reader.old.inner) (λ input. IsStored input s.kept s.layout)) }
     ensures value { IfOk result (λ s. IsSnapshot s.kept) }
@@ -369,11 +366,10 @@ pub fn read_stored<S: DotSet, R: Read>(
     ensures foreign { IfSome (R.remaining reader.old.inner) (λ input. IsForeign input
         → ConsumesAtMost (R.remaining reader.old.inner) (R.remaining reader.new.inner) 4) }
     ensures fault { IfErr result (λ r. (r.fault ≡ Device) ⊎ IsOtherFault r.fault) }
-    ensures counted { IfErr result (λ r. r.fault ≡ Device → HasFailed reader.old reader.new) }
+    ensures counted { IfErr result (λ r. r.fault ≡ Device → HasFailed reader.old.failed reader.new.failed) }
     ensures steady { MatchResult result (λ _. reader.new.failed ≡ reader.old.failed)
         (λ r. r.fault ≢ Device → reader.new.failed ≡ reader.old.failed) }
     ensures budget { reader.new.budget ≡ reader.old.budget }
-    ensures renamed { reader.new.renamed ≡ reader.old.renamed }
 {
     match read_front(alloc, reader) {
         Ok((front, behind)) => read_behind(alloc, reader, front, behind),

@@ -67,7 +67,7 @@ pub returns-in_err-_format-clause-counted : goal.returns-in_err-_format-clause-c
 returns-in_err-_format-clause-counted g c =
     let p = err_from_is_err_and c.from_residual-in_err-_format.result c.from_residual-in_err-_format.ensures.1 in
     let stands = rw c.as_slice.ensures.value at (c.in_ok-feed.ensures.adds snapshot_in_at [] c.snapshot.ensures) in
-    rw (p.1, p.2) (λ is. failed_later c.args.reader.now c.read_magic.new.reader c.read_fed.new.reader (c.in_ok-front.ensures.steady (λ wrong. absurd cc))
+    rw (p.1, p.2) (λ is. failed_later c.args.reader.now.failed c.read_magic.new.reader.failed c.read_fed.new.reader.failed (c.in_ok-front.ensures.steady (λ wrong. absurd cc))
     (c.in_err-_format.ensures.counted Two 0 c.in_ok-front.front.items stands (let same : c.in_err-_format.field-0.0 ≡ Device = cc in ap Err same)))
 
 pub returns-in_err-_format-clause-foreign : goal.returns-in_err-_format-clause-foreign

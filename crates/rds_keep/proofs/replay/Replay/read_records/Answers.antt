@@ -37,7 +37,6 @@ reading-preserved g c =
       steady = search rules;
       left = grind (arith, common_steps);
       budget = search rules;
-      renamed = search rules;
     }
 
 pub returns-in_err-hold_more-clause-stops : goal.returns-in_err-hold_more-clause-stops

@@ -1,6 +1,6 @@
 use Rattle.std.proofs.Common.{length, ◌-◌}
 use Rattle.rds_keep.proofs.WrittenSoFar.{IsWrittenSoFar}
-use Rattle.rds_keep.proofs.counted.Counted.write_all.Given as goal
+use Rattle.rds_keep.proofs.writing.Writing.write_all.Given as goal
 
 abbrev pub invariant-writing : goal.invariant-writing
 invariant-writing g l = IsWrittenSoFar g.W.Write.contents l.fn.self l.self l.bytes l.at

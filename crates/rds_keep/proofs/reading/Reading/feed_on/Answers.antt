@@ -2,7 +2,7 @@ use Rattle.std.proofs.Common.{rules, arith, refl, take}
 use Rattle.std.proofs.KnownBytes.{Consumes-nil}
 use Rattle.std.proofs.lemmas.Grind.{common_steps}
 use Rattle.rds_keep.proofs.FedSoFar.{nothing_fed, fed_more, fed_at_most}
-use Rattle.rds_keep.proofs.counted.Counted.feed_on.Goals as goal
+use Rattle.rds_keep.proofs.reading.Reading.feed_on.Goals as goal
 
 pub turns-init : goal.turns-init
 turns-init g c = record {
@@ -12,7 +12,6 @@ turns-init g c = record {
   steady = refl;
   left = omega arith;
   budget = refl;
-  renamed = refl;
 }
 
 pub turns-preserved : goal.turns-preserved
@@ -23,7 +22,6 @@ turns-preserved g c = record {
   steady = search rules;
   left = grind (arith, common_steps);
   budget = search rules;
-  renamed = search rules;
 }
 
 pub returns-in_err-feed_all-clause-most : goal.returns-in_err-feed_all-clause-most

@@ -1,5 +1,5 @@
 use Rattle.rds_keep.proofs.FrontSoFar.{front_taken}
-use Rattle.rds_keep.proofs.counted.Counted.read_front.Goals as goal
+use Rattle.rds_keep.proofs.reading.Reading.read_front.Goals as goal
 
 pub returns-clause-front : goal.returns-clause-front
 returns-clause-front g c =

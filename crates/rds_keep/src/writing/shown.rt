@@ -1,10 +1,10 @@
-//! A text that is shown to a counted writer.
+//! A text that is shown to a writer.
 ghost use Rattle.std.specs.Prelude.{◌≡◌, IfErr, OnOk, OnErr};
 ghost use Rattle.rds_names.specs.declared.fault.Fault.TheVariants.{Device};
 ghost use Rattle.rds_keep.specs.Counted.{one_more};
 ghost use Rattle.rds_keep.specs.Parts.{BytesGrow};
 
-use super::Counted;
+use super::Writing;
 use rds_names::Fault;
 use std::fmt::{self, Display, Formatter};
 use std::io::Write;
@@ -12,7 +12,7 @@ use std::io::Write;
 /// How many bytes of a text are held at a time.
 const PANE: usize = 1_024;
 
-impl<W: Write> Counted<W> {
+impl<W: Write> Writing<W> {
     /// Writes what the text's own `fmt` shows of it, taking no memory. It shows it to a pane of some bytes, again for
     /// each that it fills, and the pane's bytes are written: so what was written before stays, whatever `fmt` does.
     /// `Device` is a call of the writer that failed, and never a `fmt` that gives up: then a prefix is written.
@@ -21,9 +21,6 @@ impl<W: Write> Counted<W> {
         ensures fault { IfErr result (λ e. e ≡ Device) }
         ensures steady { OnOk result (self.new.failed ≡ self.old.failed) }
         ensures counted { OnErr result (self.new.failed ≡ one_more self.old.failed) }
-        ensures budget { self.new.budget ≡ self.old.budget }
-        ensures left { self.new.left ≡ self.old.left }
-        ensures renamed { self.new.renamed ≡ self.old.renamed }
     {
         let mut shown = 0_usize;
         'showing: for _ in 0..u64::MAX {

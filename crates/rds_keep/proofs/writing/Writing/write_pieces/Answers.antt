@@ -1,6 +1,6 @@
 use Rattle.std.proofs.Common.{[]}
 use Rattle.rds_keep.proofs.PiecesSoFar.{part_written}
-use Rattle.rds_keep.proofs.counted.Counted.write_pieces.Goals as goal
+use Rattle.rds_keep.proofs.writing.Writing.write_pieces.Goals as goal
 
 pub returns-in_err-write_all-clause-part : goal.returns-in_err-write_all-clause-part
 returns-in_err-write_all-clause-part g c =

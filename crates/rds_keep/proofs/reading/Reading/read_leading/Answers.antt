@@ -5,7 +5,7 @@ use Rattle.std.proofs.lemmas.Grind.{common_steps}
 use Rattle.rds_feeds.specs.Pieces.{ReadsOn}
 use Rattle.rds_keep.specs.Feeding.{EachIsByte}
 use Rattle.rds_keep.proofs.LedSoFar.{cut_refused, hashed_on, hashed_short, leads, led_cut, led_more, led_on, more_bytes}
-use Rattle.rds_keep.proofs.counted.Counted.read_leading.Goals as goal
+use Rattle.rds_keep.proofs.reading.Reading.read_leading.Goals as goal
 
 pub reading-init : goal.reading-init
 reading-init g c = record {
@@ -18,7 +18,6 @@ reading-init g c = record {
   steady = refl;
   left = omega arith;
   budget = refl;
-  renamed = refl;
   hashed = [];
   holds = c.new-hasher.ensures;
   parts = append-nil c.args.front.items;
@@ -44,7 +43,6 @@ reading-preserved g c =
       steady = search rules;
       left = grind (arith, common_steps);
       budget = search rules;
-      renamed = search rules;
       hashed = led.hashed ++ drop c.reading.last c.reading.held.items;
       holds = (let held = c.update.ensures led.hashed led.holds in grind (arith, common_steps));
       parts = (let on = hashed_on finish c.args.front.items led.given rest held led.hashed (drop c.reading.last c.reading.held.items) led.parts c.in_ok-read_on.ensures.appends in grind (arith, common_steps));

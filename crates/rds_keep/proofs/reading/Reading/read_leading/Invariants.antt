@@ -1,5 +1,5 @@
 use Rattle.rds_keep.proofs.LedSoFar.{IsLedSoFar}
-use Rattle.rds_keep.proofs.counted.Counted.read_leading.Given as goal
+use Rattle.rds_keep.proofs.reading.Reading.read_leading.Given as goal
 
 abbrev pub invariant-reading : goal.invariant-reading
 invariant-reading g l =

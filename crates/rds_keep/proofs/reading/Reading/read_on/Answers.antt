@@ -1,7 +1,7 @@
 use Rattle.std.proofs.Common.{rules, arith, take}
 use Rattle.std.proofs.lemmas.Grind.{common_steps}
 use Rattle.rds_keep.proofs.FrontSoFar.{front_grows, at_most}
-use Rattle.rds_keep.proofs.counted.Counted.read_on.Goals as goal
+use Rattle.rds_keep.proofs.reading.Reading.read_on.Goals as goal
 
 pub turns-preserved : goal.turns-preserved
 turns-preserved g c =
@@ -15,7 +15,6 @@ turns-preserved g c =
       steady = search rules;
       left = grind (arith, common_steps);
       budget = search rules;
-      renamed = search rules;
     }
 
 pub returns-in_err-extend_from_slice-clause-most : goal.returns-in_err-extend_from_slice-clause-most
