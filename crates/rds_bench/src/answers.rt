@@ -3,7 +3,7 @@
 use crate::report;
 use rds_codec::UnfinishedAnswer;
 use rds_gaps::GapSet;
-use rds_keep::{Counted, Feed, read_fed};
+use rds_keep::{Feed, Reading, read_fed};
 use rds_names::Fault;
 use std::io;
 
@@ -14,7 +14,7 @@ const REPLICAS: u16 = 2;
 /// its certificate has.
 pub fn read(rt: &HostRuntime) -> io::Result<()> {
     let feed: Feed<UnfinishedAnswer<GapSet>> = Feed::answer(rt.alloc(), REPLICAS);
-    match read_fed(feed, &mut Counted::new(rt.reader())) {
+    match read_fed(feed, &mut Reading::new(rt.reader())) {
         Ok(answer) => {
             let components = answer.state.components();
             let rows = answer.certificate.rows().len();

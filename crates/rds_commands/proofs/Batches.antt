@@ -4,7 +4,7 @@ use Rattle.std.specs.Prelude.{IfSome}
 use Rattle.std.proofs.lemmas.List.{length-take, take_all}
 use Rattle.rds_names.specs.declared.fault.Fault.{Fault}
 use Rattle.rds_names.specs.declared.fault.Fault.TheVariants.{Device, Memory}
-use Rattle.rds_keep.specs.Counted.{CountedValue, HasFailed}
+use Rattle.rds_keep.specs.Counted.{HasFailed, ReadingValue}
 use Rattle.rds_state.specs.Fits.{ReplicaValue}
 use Rattle.rds_lines.specs.Editing.{EditsLines, WritesAll}
 use Rattle.rds_lines.specs.Lines.{lines_in}
@@ -57,9 +57,9 @@ pub answers_written : (path input : List ℕ) (before after : Option (List ℕ))
 answers_written path input before after status file answers seen few edited same written = inl (few, inl (file, answers, edited, rw (← same) written))
 
 -- the input isn't read
-module _ {T : Type 0} (old new : CountedValue T) (fault : Fault) (a b : Option (List ℕ)) (status : ℕ) (h : ((fault ≡ Memory) × (new.failed ≡ old.failed)) ⊎ ((fault ≡ Device) × HasFailed old new)) (told : Writes (Err fault) a b status) where
+module _ {R : Type 0} (old new : ReadingValue R) (fault : Fault) (a b : Option (List ℕ)) (status : ℕ) (h : ((fault ≡ Memory) × (new.failed ≡ old.failed)) ⊎ ((fault ≡ Device) × HasFailed old.failed new.failed)) (told : Writes (Err fault) a b status) where
   -- there is no memory for it
-  pub unread_edits : (path : List ℕ) (o : Option (List ℕ)) → IfSome o (λ input. (HasFailed old new → ⊥) → WritesEdits path input a b status)
+  pub unread_edits : (path : List ℕ) (o : Option (List ℕ)) → IfSome o (λ input. (HasFailed old.failed new.failed → ⊥) → WritesEdits path input a b status)
   unread_edits path None = tt
   unread_edits path (Some input) = λ steady. elim h [
     | inl memory ↦ inr (inr (subst (λ (f : Fault). Writes (Err f) a b status) memory.0 told))

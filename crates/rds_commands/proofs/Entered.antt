@@ -7,7 +7,7 @@ use Rattle.clap.specs.declared.error.kind.ErrorKind.{ErrorKind}
 use Rattle.clap.specs.declared.error.kind.ErrorKind.TheVariants.{OutOfMemory}
 use Rattle.rds_names.specs.declared.fault.Fault.{Fault}
 use Rattle.rds_names.specs.declared.fault.Fault.TheVariants.{Memory}
-use Rattle.rds_keep.specs.Counted.{CountedValue, HasFailed}
+use Rattle.rds_keep.specs.Counted.{HasFailed, WritingValue}
 use Rattle.rds_output.specs.Reply.{WritesReply}
 use Rattle.rds_output.specs.Output.{Writes}
 use Rattle.rds_output.specs.declared.reply.Reply.{Reply}
@@ -21,8 +21,8 @@ use Rattle.rds_commands.specs.Told.{AnswersMistake}
 use Rattle.rds_commands.specs.Unparsed.{WritesUnparsed}
 
 -- Memory was written
-pub memory_told : {T : Type 0} (e : Error) (before after : Option (List ℕ)) (status : ℕ) (old new : CountedValue T)
-    → ((HasFailed old new → ⊥) → WritesUnparsed (kind_of e) before after status) → kind_of e ≡ OutOfMemory → (HasFailed old new → ⊥) → Writes (Err Memory) before after status
+pub memory_told : {W : Type 0} (e : Error) (before after : Option (List ℕ)) (status : ℕ) (old new : WritingValue W)
+    → ((HasFailed old.failed new.failed → ⊥) → WritesUnparsed (kind_of e) before after status) → kind_of e ≡ OutOfMemory → (HasFailed old.failed new.failed → ⊥) → Writes (Err Memory) before after status
 memory_told e before after status old new told is wrote = subst (λ (kind : ErrorKind). WritesUnparsed kind before after status) is (told wrote)
 
 -- words that are none of the program's

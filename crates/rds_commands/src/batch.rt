@@ -2,7 +2,7 @@
 ghost use Rattle.std.specs.Prelude.{◌≡◌, ◌≤◌, ◌⊎◌, Err, IfErr, IfOk};
 ghost use Rattle.rds_names.specs.declared.fault.Fault.TheVariants.{Memory};
 ghost use Rattle.rds_keep.specs.Changes.{IsChanged};
-ghost use Rattle.rds_lines.specs.Streams.{Emits, stream_of};
+ghost use Rattle.rds_lines.specs.Streams.{Emits, reading_of, writing_of};
 ghost use Rattle.rds_lines.specs.Editing.{EditsLines};
 ghost use Rattle.rds_lines.specs.Lines.{lines_in};
 ghost use Rattle.rds_commands.specs.Edits.{delta_alone};
@@ -13,7 +13,7 @@ use rds_delta::{Digest, delta};
 use rds_files::{Disk, LockFile, LockedFile, ReplacedFile};
 use rds_gaps::GapSet;
 use rds_json::LineReader;
-use rds_keep::{Change, Counted};
+use rds_keep::{Change, Reading, Writing};
 use rds_lines::{edit_lines, write_replies};
 use rds_names::Fault;
 use rds_output::{Reply, write_fault};
@@ -112,13 +112,13 @@ fn edited_by(alloc: Global, replica: Replica<GapSet>, input: &[u8]) -> Result<Ed
 pub fn run_edit_lines<H: Disk, R: Read, W: Write>(
     rt: &H,
     path: &str,
-    reader: &mut Counted<R>,
-    writer: &mut Counted<W>,
+    reader: &mut Reading<R>,
+    writer: &mut Writing<W>,
 ) -> u8
 where
     H::File: LockFile,
-    ensures written { Emits (WritesEditLines path.now (stream_of R.remaining reader.old reader.new))
-        (stream_of W.contents writer.old writer.new) result }
+    ensures written { Emits (WritesEditLines path.now (reading_of R.remaining reader.old reader.new))
+        (writing_of W.contents writer.old writer.new) result }
     ensures status { result ≤ 2 }
     ensures broken { (writer.new.failed ≡ writer.old.failed) ⊎ (result ≡ 1) }
 {
@@ -133,7 +133,7 @@ where
 
 /// The lines that the reader holds. Where it fails, or holds more than [`MOST`] bytes, that is reported on standard
 /// error.
-pub fn read_lines<H: Disk, R: Read>(rt: &H, reader: &mut Counted<R>) -> Result<Vec<u8>, Fault> {
+pub fn read_lines<H: Disk, R: Read>(rt: &H, reader: &mut Reading<R>) -> Result<Vec<u8>, Fault> {
     match reader.read_front(rt.alloc(), MOST + 1) {
         Ok(input) if input.len() <= MOST => Ok(input),
         Ok(_) => {
@@ -148,10 +148,10 @@ pub fn read_lines<H: Disk, R: Read>(rt: &H, reader: &mut Counted<R>) -> Result<V
 }
 
 // Edits the replica in a file as the lines of an input say, and writes their answers.
-fn edit_by<H: Disk, W: Write>(rt: &H, path: &str, input: &[u8], writer: &mut Counted<W>) -> u8
+fn edit_by<H: Disk, W: Write>(rt: &H, path: &str, input: &[u8], writer: &mut Writing<W>) -> u8
 where
     H::File: LockFile,
-    ensures written { Emits (WritesEdits path.now input.now) (stream_of W.contents writer.old writer.new) result }
+    ensures written { Emits (WritesEdits path.now input.now) (writing_of W.contents writer.old writer.new) result }
     ensures status { result ≤ 2 }
     ensures broken { (writer.new.failed ≡ writer.old.failed) ⊎ (result ≡ 1) }
 {

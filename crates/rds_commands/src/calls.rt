@@ -1,6 +1,6 @@
 //! Commands that call a site, whose address stands in place of a file.
 ghost use Rattle.std.specs.Prelude.{◌≡◌, ◌≤◌, ◌⊎◌, IfSome, is_some};
-ghost use Rattle.rds_lines.specs.Streams.{Emits, stream_of};
+ghost use Rattle.rds_lines.specs.Streams.{Emits, writing_of};
 ghost use Rattle.rds_commands.specs.Calls.{LacksAnswer, SuitsForm, WritesCall, calls_site, form_of, writes_fault};
 
 use crate::batch::read_lines;
@@ -12,7 +12,7 @@ use crate::site::{RunSite, SiteRequest};
 use crate::visits::is_site;
 use rds_files::Disk;
 use rds_json::{show_scalar, show_text};
-use rds_keep::Counted;
+use rds_keep::{Reading, Writing};
 use rds_listing::{Raw, Wanted};
 use rds_names::Fault;
 use rds_output::{status_of, write_fault};
@@ -100,7 +100,7 @@ impl<'a> Call<'a> {
         self,
         rt: &H,
         site: &T,
-        reader: &mut Counted<R>,
+        reader: &mut Reading<R>,
     ) -> Result<Vec<u8>, Fault> {
         let told = self.told(rt, site, reader)?;
         match self.errand {
@@ -117,7 +117,7 @@ impl<'a> Call<'a> {
         self,
         rt: &H,
         site: &T,
-        reader: &mut Counted<R>,
+        reader: &mut Reading<R>,
     ) -> Result<Vec<u8>, Fault> {
         match self.errand {
             Errand::Edit(words) => {
@@ -165,8 +165,8 @@ impl<'a> Call<'a> {
     }
 
     // Writes the fault by which there is no answer, where that is to be, and answers the status.
-    fn refuse<W: Write>(self, writer: &mut Counted<W>, fault: Fault) -> u8
-        ensures written { Emits (LacksAnswer self.entry.form fault) (stream_of W.contents writer.old writer.new) result }
+    fn refuse<W: Write>(self, writer: &mut Writing<W>, fault: Fault) -> u8
+        ensures written { Emits (LacksAnswer self.entry.form fault) (writing_of W.contents writer.old writer.new) result }
         ensures status { result ≤ 2 }
         ensures broken { (writer.new.failed ≡ writer.old.failed) ⊎ (result ≡ 1) }
     {
@@ -197,10 +197,10 @@ pub fn run_call<H: Disk, R: Read, W: Write, T: RunSite<H>>(
     rt: &H,
     call: Call<'_>,
     site: &T,
-    reader: &mut Counted<R>,
-    writer: &mut Counted<W>,
+    reader: &mut Reading<R>,
+    writer: &mut Writing<W>,
 ) -> u8
-    ensures written { Emits (WritesCall call.entry.form) (stream_of W.contents writer.old writer.new) result }
+    ensures written { Emits (WritesCall call.entry.form) (writing_of W.contents writer.old writer.new) result }
     ensures status { result ≤ 3 }
     ensures broken { (writer.new.failed ≡ writer.old.failed) ⊎ (result ≡ 1) }
 {

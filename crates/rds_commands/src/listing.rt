@@ -1,6 +1,6 @@
 //! Commands that tell scripts of the document of the replica in a file.
 ghost use Rattle.std.specs.Prelude.{◌≡◌, ◌≤◌, ◌⊎◌, [], IfErr, IfOk, string_bytes};
-ghost use Rattle.rds_lines.specs.Streams.{Emits, stream_of};
+ghost use Rattle.rds_lines.specs.Streams.{Emits, writing_of};
 ghost use Rattle.rds_listing.specs.Conflicts.{conflicts_text};
 ghost use Rattle.rds_listing.specs.Dump.{dump_text};
 ghost use Rattle.rds_commands.specs.Listing.{
@@ -23,7 +23,7 @@ use crate::offline::status_for;
 use rds_dots::DotSet;
 use rds_files::{Disk, ReplicaFile};
 use rds_gaps::GapSet;
-use rds_keep::Counted;
+use rds_keep::Writing;
 use rds_lines::place_of;
 use rds_listing::{Raw, Wanted, conflicts, differences, dump, dump_part, raw_values};
 use rds_names::{Fault, Path};
@@ -92,9 +92,9 @@ pub fn run_raw<H: Disk, W: Write>(
     path: &str,
     text: &str,
     wanted: Wanted,
-    writer: &mut Counted<W>,
+    writer: &mut Writing<W>,
 ) -> u8
-    ensures written { Emits (WritesRaw path.now text.now wanted) (stream_of W.contents writer.old writer.new) result }
+    ensures written { Emits (WritesRaw path.now text.now wanted) (writing_of W.contents writer.old writer.new) result }
     ensures status { result ≤ 3 }
     ensures broken { (writer.new.failed ≡ writer.old.failed) ⊎ (result ≡ 1) }
 {
@@ -159,9 +159,9 @@ pub fn conflicts_file<'a, H: Disk>(
 }
 
 /// Writes the lines of `dump_file`. The registers of which they set several values are reported on standard error.
-pub fn run_dump<H: Disk, W: Write>(rt: &H, path: &str, text: &str, writer: &mut Counted<W>) -> u8
+pub fn run_dump<H: Disk, W: Write>(rt: &H, path: &str, text: &str, writer: &mut Writing<W>) -> u8
     ensures written { Emits (WritesList dump_text 0 path.now text.now)
-        (stream_of W.contents writer.old writer.new) result }
+        (writing_of W.contents writer.old writer.new) result }
     ensures status { result ≤ 3 }
     ensures broken { (writer.new.failed ≡ writer.old.failed) ⊎ (result ≡ 1) }
 {
@@ -182,10 +182,10 @@ pub fn run_conflicts<H: Disk, W: Write>(
     rt: &H,
     path: &str,
     text: &str,
-    writer: &mut Counted<W>,
+    writer: &mut Writing<W>,
 ) -> u8
     ensures written { Emits (WritesList conflicts_text 3 path.now text.now)
-        (stream_of W.contents writer.old writer.new) result }
+        (writing_of W.contents writer.old writer.new) result }
     ensures status { result ≤ 3 }
     ensures broken { (writer.new.failed ≡ writer.old.failed) ⊎ (result ≡ 1) }
 {
@@ -228,8 +228,8 @@ fn root_path(alloc: Global) -> Result<Path, Fault>
 }
 
 /// Writes the lines of `compare_files`, and answers the status: 3 where there is one.
-pub fn run_diff<H: Disk, W: Write>(rt: &H, path: &str, other: &str, writer: &mut Counted<W>) -> u8
-    ensures written { Emits (WritesDiff path.now other.now) (stream_of W.contents writer.old writer.new) result }
+pub fn run_diff<H: Disk, W: Write>(rt: &H, path: &str, other: &str, writer: &mut Writing<W>) -> u8
+    ensures written { Emits (WritesDiff path.now other.now) (writing_of W.contents writer.old writer.new) result }
     ensures status { result ≤ 3 }
     ensures broken { (writer.new.failed ≡ writer.old.failed) ⊎ (result ≡ 1) }
 {
@@ -243,9 +243,9 @@ pub fn run_diff<H: Disk, W: Write>(rt: &H, path: &str, other: &str, writer: &mut
 }
 
 // Writes lines, and answers the status: this one where there are some.
-fn write_lines<W: Write>(writer: &mut Counted<W>, lines: &str, some: u8) -> u8
+fn write_lines<W: Write>(writer: &mut Writing<W>, lines: &str, some: u8) -> u8
     requires { some ≤ 3 }
-    ensures written { Emits (WritesLines some lines.now) (stream_of W.contents writer.old writer.new) result }
+    ensures written { Emits (WritesLines some lines.now) (writing_of W.contents writer.old writer.new) result }
     ensures status { result ≤ 3 }
     ensures broken { (writer.new.failed ≡ writer.old.failed) ⊎ (result ≡ 1) }
 {

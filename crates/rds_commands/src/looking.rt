@@ -2,7 +2,7 @@
 ghost use Rattle.std.specs.Prelude.{◌≡◌, ◌≤◌, ◌⊎◌, [], Err, IfErr, IfOk};
 ghost use Rattle.rds_names.specs.declared.fault.Fault.TheVariants.{BadPath};
 ghost use Rattle.rds_names.specs.Path.{path_of};
-ghost use Rattle.rds_lines.specs.Streams.{Emits, stream_of};
+ghost use Rattle.rds_lines.specs.Streams.{Emits, writing_of};
 ghost use Rattle.rds_files.specs.Files.{IsUnreadFile};
 ghost use Rattle.rds_commands.specs.Looks.{DescribesFile, GetsFile, RefusesGet, WritesGet, WritesStatus};
 
@@ -11,7 +11,7 @@ use crate::notes::{note_file, note_part};
 use crate::outcome::told;
 use rds_files::{Disk, ReplicaFile};
 use rds_gaps::GapSet;
-use rds_keep::Counted;
+use rds_keep::Writing;
 use rds_lines::{describe, place_of, shown_at};
 use rds_names::{Fault, Path};
 use std::io::Write;
@@ -53,8 +53,8 @@ pub fn describe_file<'a, H: Disk>(
 }
 
 /// Tells what stands at a path as `get_file` does, and writes the answer.
-pub fn run_get<H: Disk, W: Write>(rt: &H, path: &str, text: &str, writer: &mut Counted<W>) -> u8
-    ensures written { Emits (WritesGet path.now text.now) (stream_of W.contents writer.old writer.new) result }
+pub fn run_get<H: Disk, W: Write>(rt: &H, path: &str, text: &str, writer: &mut Writing<W>) -> u8
+    ensures written { Emits (WritesGet path.now text.now) (writing_of W.contents writer.old writer.new) result }
     ensures status { result ≤ 2 }
     ensures broken { (writer.new.failed ≡ writer.old.failed) ⊎ (result ≡ 1) }
 {
@@ -63,8 +63,8 @@ pub fn run_get<H: Disk, W: Write>(rt: &H, path: &str, text: &str, writer: &mut C
 }
 
 /// Tells whose replica a file holds as `describe_file` does, and writes the answer.
-pub fn run_status<H: Disk, W: Write>(rt: &H, path: &str, writer: &mut Counted<W>) -> u8
-    ensures written { Emits (WritesStatus path.now) (stream_of W.contents writer.old writer.new) result }
+pub fn run_status<H: Disk, W: Write>(rt: &H, path: &str, writer: &mut Writing<W>) -> u8
+    ensures written { Emits (WritesStatus path.now) (writing_of W.contents writer.old writer.new) result }
     ensures status { result ≤ 2 }
     ensures broken { (writer.new.failed ≡ writer.old.failed) ⊎ (result ≡ 1) }
 {

@@ -1,6 +1,6 @@
 //! Commands on files that meet without a connection, and what is written of them.
 ghost use Rattle.std.specs.Prelude.{◌≡◌, ◌≤◌, ◌⊎◌, false, IfErr, IfOk, Some, string_bytes};
-ghost use Rattle.rds_lines.specs.Streams.{Emits, stream_of};
+ghost use Rattle.rds_lines.specs.Streams.{Emits, reading_of, writing_of};
 ghost use Rattle.rds_names.specs.declared.fault.Fault.TheVariants.{Device};
 ghost use Rattle.rds_output.specs.Output.{fault_status};
 ghost use Rattle.rds_commands.specs.Offline.{
@@ -35,7 +35,7 @@ use crate::visits::{is_site, write_visit};
 use rds_codec::LIMIT;
 use rds_files::{CreatedFile, Disk, LockFile};
 use rds_gaps::GapSet;
-use rds_keep::Counted;
+use rds_keep::{Reading, Writing};
 use rds_names::{Fault, Name};
 use rds_offline::{
     AnsweredFile, answer_file, ask_file, check_texts, init_from, init_from_copy, merge_file,
@@ -78,11 +78,11 @@ pub fn run_init_from<H: Disk, W: Write, T: RunSite<H>>(
     rt: &H,
     words: &InitFromWords<'_>,
     site: &T,
-    writer: &mut Counted<W>,
+    writer: &mut Writing<W>,
 ) -> u8
 where
     H::File: LockFile,
-    ensures written { Emits (WritesInitFrom words.now) (stream_of W.contents writer.old writer.new) result }
+    ensures written { Emits (WritesInitFrom words.now) (writing_of W.contents writer.old writer.new) result }
     ensures status { result ≤ 2 }
     ensures broken { (writer.new.failed ≡ writer.old.failed) ⊎ (result ≡ 1) }
 {
@@ -96,11 +96,11 @@ where
 fn init_from_file<H: Disk, W: Write>(
     rt: &H,
     words: &InitFromWords<'_>,
-    writer: &mut Counted<W>,
+    writer: &mut Writing<W>,
 ) -> u8
 where
     H::File: LockFile,
-    ensures written { Emits (WritesInitFromFile words.now) (stream_of W.contents writer.old writer.new) result }
+    ensures written { Emits (WritesInitFromFile words.now) (writing_of W.contents writer.old writer.new) result }
     ensures status { result ≤ 2 }
     ensures broken { (writer.new.failed ≡ writer.old.failed) ⊎ (result ≡ 1) }
 {
@@ -118,11 +118,11 @@ fn init_from_site<H: Disk, W: Write, T: RunSite<H>>(
     rt: &H,
     words: &InitFromWords<'_>,
     site: &T,
-    writer: &mut Counted<W>,
+    writer: &mut Writing<W>,
 ) -> u8
 where
     H::File: LockFile,
-    ensures written { Emits (WritesInitFromSite words.now) (stream_of W.contents writer.old writer.new) result }
+    ensures written { Emits (WritesInitFromSite words.now) (writing_of W.contents writer.old writer.new) result }
     ensures status { result ≤ 2 }
     ensures broken { (writer.new.failed ≡ writer.old.failed) ⊎ (result ≡ 1) }
 {
@@ -158,10 +158,10 @@ where
 }
 
 /// Merges a copy into a file as `merge_file` does, and writes how many components were taken.
-pub fn run_merge<H: Disk, W: Write>(rt: &H, path: &str, from: &str, writer: &mut Counted<W>) -> u8
+pub fn run_merge<H: Disk, W: Write>(rt: &H, path: &str, from: &str, writer: &mut Writing<W>) -> u8
 where
     H::File: LockFile,
-    ensures written { Emits (WritesMerge path.now from.now) (stream_of W.contents writer.old writer.new) result }
+    ensures written { Emits (WritesMerge path.now from.now) (writing_of W.contents writer.old writer.new) result }
     ensures status { result ≤ 2 }
     ensures broken { (writer.new.failed ≡ writer.old.failed) ⊎ (result ≡ 1) }
 {
@@ -177,10 +177,10 @@ where
 
 /// Writes the question of the replica in a file as `ask_file` gives it, and nothing else. A fault is reported on
 /// standard error alone.
-pub fn run_ask<H: Disk, W: Write>(rt: &H, path: &str, writer: &mut Counted<W>) -> u8
+pub fn run_ask<H: Disk, W: Write>(rt: &H, path: &str, writer: &mut Writing<W>) -> u8
 where
     H::File: LockFile,
-    ensures written { Emits (WritesAsk path.now) (stream_of W.contents writer.old writer.new) result }
+    ensures written { Emits (WritesAsk path.now) (writing_of W.contents writer.old writer.new) result }
     ensures status { result ≤ 2 }
     ensures broken { (writer.new.failed ≡ writer.old.failed) ⊎ (result ≡ 1) }
 {
@@ -198,13 +198,13 @@ where
 pub fn run_answer<H: Disk, R: Read, W: Write>(
     rt: &H,
     path: &str,
-    reader: &mut Counted<R>,
-    writer: &mut Counted<W>,
+    reader: &mut Reading<R>,
+    writer: &mut Writing<W>,
 ) -> u8
 where
     H::File: LockFile,
-    ensures written { Emits (WritesAnswerTo path.now (stream_of R.remaining reader.old reader.new))
-        (stream_of W.contents writer.old writer.new) result }
+    ensures written { Emits (WritesAnswerTo path.now (reading_of R.remaining reader.old reader.new))
+        (writing_of W.contents writer.old writer.new) result }
     ensures status { result ≤ 2 }
     ensures broken { (writer.new.failed ≡ writer.old.failed) ⊎ (result ≡ 1) }
 {
@@ -218,10 +218,10 @@ where
 }
 
 // Writes the answer to a question.
-fn answer_to<H: Disk, W: Write>(rt: &H, path: &str, question: &[u8], writer: &mut Counted<W>) -> u8
+fn answer_to<H: Disk, W: Write>(rt: &H, path: &str, question: &[u8], writer: &mut Writing<W>) -> u8
 where
     H::File: LockFile,
-    ensures written { Emits (WritesAnswer path.now question.now) (stream_of W.contents writer.old writer.new) result }
+    ensures written { Emits (WritesAnswer path.now question.now) (writing_of W.contents writer.old writer.new) result }
     ensures status { result ≤ 2 }
     ensures broken { (writer.new.failed ≡ writer.old.failed) ⊎ (result ≡ 1) }
 {
@@ -239,13 +239,13 @@ where
 pub fn run_take<H: Disk, R: Read, W: Write>(
     rt: &H,
     words: TakeWords<'_>,
-    reader: &mut Counted<R>,
-    writer: &mut Counted<W>,
+    reader: &mut Reading<R>,
+    writer: &mut Writing<W>,
 ) -> u8
 where
     H::File: LockFile,
     ensures written { Emits (WritesTake words.entry.file.now words.entry.question.now words.entry.answer.now (R.remaining reader.old.inner))
-        (stream_of W.contents writer.old writer.new) result }
+        (writing_of W.contents writer.old writer.new) result }
     ensures status { result ≤ 2 }
     ensures broken { (writer.new.failed ≡ writer.old.failed) ⊎ (result ≡ 1) }
 {
@@ -261,12 +261,12 @@ fn take_both<H: Disk, W: Write>(
     path: &str,
     question: &[u8],
     answer: &[u8],
-    writer: &mut Counted<W>,
+    writer: &mut Writing<W>,
 ) -> u8
 where
     H::File: LockFile,
     ensures written { Emits (WritesTakeOf path.now question.now answer.now)
-        (stream_of W.contents writer.old writer.new) result }
+        (writing_of W.contents writer.old writer.new) result }
     ensures status { result ≤ 2 }
     ensures broken { (writer.new.failed ≡ writer.old.failed) ⊎ (result ≡ 1) }
 {
@@ -284,10 +284,10 @@ fn told_answered<H: Disk, W: Write>(
     rt: &H,
     path: &str,
     done: AnsweredFile<'_>,
-    writer: &mut Counted<W>,
+    writer: &mut Writing<W>,
 ) -> u8
     ensures written { Emits (WritesVisitOf (Some done.entry.components) (fork_fault done.entry.forked))
-        (stream_of W.contents writer.old writer.new) result }
+        (writing_of W.contents writer.old writer.new) result }
     ensures status { result ≤ 2 }
     ensures broken { (writer.new.failed ≡ writer.old.failed) ⊎ (result ≡ 1) }
 {
@@ -318,11 +318,11 @@ pub fn run_check<H: Disk, R: Read, W: Write>(
     rt: &H,
     question: &str,
     answer: &str,
-    reader: &mut Counted<R>,
-    writer: &mut Counted<W>,
+    reader: &mut Reading<R>,
+    writer: &mut Writing<W>,
 ) -> u8
     ensures written { Emits (WritesCheck question.now answer.now (R.remaining reader.old.inner))
-        (stream_of W.contents writer.old writer.new) result }
+        (writing_of W.contents writer.old writer.new) result }
     ensures status { result ≤ 2 }
     ensures broken { (writer.new.failed ≡ writer.old.failed) ⊎ (result ≡ 1) }
 {
@@ -337,7 +337,7 @@ fn checked<H: Disk, R: Read>(
     rt: &H,
     question: &str,
     answer: &str,
-    reader: &mut Counted<R>,
+    reader: &mut Reading<R>,
 ) -> Result<String, Fault>
     ensures checked { IfOk result (λ lines. ChecksRead question.now answer.now
         (R.remaining reader.old.inner) (string_bytes lines)) }
@@ -358,7 +358,7 @@ pub fn read_both<H: Disk, R: Read>(
     rt: &H,
     question: &str,
     answer: &str,
-    reader: &mut Counted<R>,
+    reader: &mut Reading<R>,
 ) -> Result<(Vec<u8>, Vec<u8>), Fault>
     ensures read { IfOk result (λ texts. AreReadBy (R.remaining reader.old.inner) question.now answer.now
         texts.0.items texts.1.items) }
@@ -377,7 +377,7 @@ pub fn read_both<H: Disk, R: Read>(
 pub fn read_text<H: Disk, R: Read>(
     rt: &H,
     path: &str,
-    reader: &mut Counted<R>,
+    reader: &mut Reading<R>,
 ) -> Result<Vec<u8>, Fault>
     ensures read { IfOk result (λ text. IsReadOfInput (R.remaining reader.old.inner) path.now text.items) }
     ensures unused { is_piped path.now ≡ false → reader.new ≡ reader.old }
@@ -393,7 +393,7 @@ pub fn read_text<H: Disk, R: Read>(
         };
     }
     let opened = open_text(rt, path)?;
-    match Counted::new(opened).read_front(rt.alloc(), LIMIT + 1) {
+    match Reading::new(opened).read_front(rt.alloc(), LIMIT + 1) {
         Ok(text) => Ok(text),
         Err(fault) => {
             note_file(rt, path, fault);

@@ -1,13 +1,13 @@
 //! What is written of a command on a file: the answer that came with it, or why there is none.
 ghost use Rattle.std.specs.Prelude.{◌≡◌, ◌≤◌, ◌⊎◌};
-ghost use Rattle.rds_lines.specs.Streams.{Emits, stream_of};
+ghost use Rattle.rds_lines.specs.Streams.{Emits, writing_of};
 ghost use Rattle.rds_output.specs.Reply.{WritesReply};
 ghost use Rattle.rds_commands.specs.OfFile.{answer_of, taken_of};
 
 use crate::file_commands::FileAnswer;
 use crate::notes::note_unwritten;
 use rds_files::Disk;
-use rds_keep::Counted;
+use rds_keep::Writing;
 use rds_names::Fault;
 use rds_offline::TakenFile;
 use rds_output::{Reply, write_reply};
@@ -16,11 +16,11 @@ use std::io::Write;
 /// Writes the answer that came with a file, or the fault, of which the note is made first.
 pub fn told<F: Drop, W: Write, N: FnOnce(Fault) + Drop>(
     done: Result<FileAnswer<F>, Fault>,
-    writer: &mut Counted<W>,
+    writer: &mut Writing<W>,
     note: N,
 ) -> u8
     requires { N.IsAlwaysCallable note }
-    ensures written { Emits (WritesReply (answer_of done)) (stream_of W.contents writer.old writer.new) result }
+    ensures written { Emits (WritesReply (answer_of done)) (writing_of W.contents writer.old writer.new) result }
     ensures status { result ≤ 2 }
     ensures broken { (writer.new.failed ≡ writer.old.failed) ⊎ (result ≡ 1) }
 {
@@ -38,11 +38,11 @@ pub fn told_taken<H: Disk, W: Write, N: FnOnce(Fault) + Drop>(
     rt: &H,
     path: &str,
     done: Result<TakenFile<'_>, Fault>,
-    writer: &mut Counted<W>,
+    writer: &mut Writing<W>,
     note: N,
 ) -> u8
     requires { N.IsAlwaysCallable note }
-    ensures written { Emits (WritesReply (taken_of done.entry)) (stream_of W.contents writer.old writer.new) result }
+    ensures written { Emits (WritesReply (taken_of done.entry)) (writing_of W.contents writer.old writer.new) result }
     ensures status { result ≤ 2 }
     ensures broken { (writer.new.failed ≡ writer.old.failed) ⊎ (result ≡ 1) }
 {

@@ -3,7 +3,7 @@ ghost use Rattle.std.specs.Prelude.{◌≡◌, ◌≢◌, [], ◌≤◌, ◌⊎�
 ghost use Rattle.rds_lines.specs.Answering.{AnswersLines};
 ghost use Rattle.rds_lines.specs.Run.{RunsJoin};
 ghost use Rattle.rds_lines.specs.Sim.{MayBeSimulated};
-ghost use Rattle.rds_lines.specs.Streams.{Emits, stream_of};
+ghost use Rattle.rds_lines.specs.Streams.{Emits, reading_of, writing_of};
 ghost use Rattle.rds_words.specs.Commands.{join_words, sim_words};
 ghost use Rattle.rds_words.specs.Entered.{Names, mistakes_in, named_in};
 ghost use Rattle.rds_commands.specs.Told.{MayWriteNamed, RunsSim, TellsMistake, WritesHere, WritesTask};
@@ -25,7 +25,7 @@ use crate::tips::command_in;
 use crate::unparsed::write_unparsed;
 use crate::watching::run_watch;
 use rds_files::{Disk, LockFile};
-use rds_keep::Counted;
+use rds_keep::{Reading, Writing};
 use rds_lines::{Layout, run_join, run_sim};
 use rds_names::Fault;
 use rds_output::write_fault;
@@ -46,23 +46,23 @@ pub fn run<H: Disk + Net, R: Read, W: Write, S: AsStr, T: RunSite<H>>(
     rt: &H,
     words: &[S],
     site: &T,
-    reader: &mut Counted<R>,
-    writer: &mut Counted<W>,
+    reader: &mut Reading<R>,
+    writer: &mut Writing<W>,
 ) -> u8
 where
     H::File: LockFile,
     // The words of `join` and of `sim`.
     ensures join { Names (map S.text words.entry.now) join_words
-        → RunsJoin (stream_of R.remaining reader.old reader.new) (stream_of W.contents writer.old writer.new) result }
+        → RunsJoin (reading_of R.remaining reader.old reader.new) (writing_of W.contents writer.old writer.new) result }
     ensures sim { Names (map S.text words.entry.now) sim_words
-        → RunsSim (stream_of R.remaining reader.old reader.new) (stream_of W.contents writer.old writer.new) result }
+        → RunsSim (reading_of R.remaining reader.old reader.new) (writing_of W.contents writer.old writer.new) result }
 
     // Other words that name a task, and words that the command line doesn't have.
     ensures task { mistakes_in (map S.text words.entry.now) ≡ []
-        → Emits (MayWriteNamed (named_in (map S.text words.entry.now)) (stream_of R.remaining reader.old reader.new))
-        (stream_of W.contents writer.old writer.new) result }
+        → Emits (MayWriteNamed (named_in (map S.text words.entry.now)) (reading_of R.remaining reader.old reader.new))
+        (writing_of W.contents writer.old writer.new) result }
     ensures mistake { mistakes_in (map S.text words.entry.now) ≢ []
-        → TellsMistake (mistakes_in (map S.text words.entry.now)) (stream_of W.contents writer.old writer.new) result }
+        → TellsMistake (mistakes_in (map S.text words.entry.now)) (writing_of W.contents writer.old writer.new) result }
 
     // Always.
     ensures status { result ≤ 3 }
@@ -83,17 +83,17 @@ fn run_task<H: Disk + Net, R: Read, W: Write, T: RunSite<H>>(
     rt: &H,
     task: Task<'_>,
     site: &T,
-    reader: &mut Counted<R>,
-    writer: &mut Counted<W>,
+    reader: &mut Reading<R>,
+    writer: &mut Writing<W>,
 ) -> u8
 where
     H::File: LockFile,
     ensures join { task.entry ≡ Task.Join
-        → RunsJoin (stream_of R.remaining reader.old reader.new) (stream_of W.contents writer.old writer.new) result }
+        → RunsJoin (reading_of R.remaining reader.old reader.new) (writing_of W.contents writer.old writer.new) result }
     ensures sim { task.entry ≡ Task.Sim → AnswersLines MayBeSimulated
-        (stream_of R.remaining reader.old reader.new) (stream_of W.contents writer.old writer.new) result }
-    ensures written { Emits (WritesTask task.entry (stream_of R.remaining reader.old reader.new))
-        (stream_of W.contents writer.old writer.new) result }
+        (reading_of R.remaining reader.old reader.new) (writing_of W.contents writer.old writer.new) result }
+    ensures written { Emits (WritesTask task.entry (reading_of R.remaining reader.old reader.new))
+        (writing_of W.contents writer.old writer.new) result }
     ensures status { result ≤ 3 }
     ensures broken { (writer.new.failed ≡ writer.old.failed) ⊎ (result ≡ 1) }
 {
@@ -108,17 +108,17 @@ fn run_here<H: Disk + Net, R: Read, W: Write, T: RunSite<H>>(
     rt: &H,
     task: Task<'_>,
     site: &T,
-    reader: &mut Counted<R>,
-    writer: &mut Counted<W>,
+    reader: &mut Reading<R>,
+    writer: &mut Writing<W>,
 ) -> u8
 where
     H::File: LockFile,
     ensures join { task.entry ≡ Task.Join
-        → RunsJoin (stream_of R.remaining reader.old reader.new) (stream_of W.contents writer.old writer.new) result }
+        → RunsJoin (reading_of R.remaining reader.old reader.new) (writing_of W.contents writer.old writer.new) result }
     ensures sim { task.entry ≡ Task.Sim → AnswersLines MayBeSimulated
-        (stream_of R.remaining reader.old reader.new) (stream_of W.contents writer.old writer.new) result }
-    ensures written { Emits (WritesHere task.entry (stream_of R.remaining reader.old reader.new))
-        (stream_of W.contents writer.old writer.new) result }
+        (reading_of R.remaining reader.old reader.new) (writing_of W.contents writer.old writer.new) result }
+    ensures written { Emits (WritesHere task.entry (reading_of R.remaining reader.old reader.new))
+        (writing_of W.contents writer.old writer.new) result }
     ensures status { result ≤ 3 }
     ensures broken { (writer.new.failed ≡ writer.old.failed) ⊎ (result ≡ 1) }
 {
@@ -143,7 +143,7 @@ where
         Task::Conflicts { file, path } => run_conflicts(rt, file, path, writer),
         Task::Serve(words) => run_serve(rt, words, reader, writer),
         Task::Sync(words) => run_sync(rt, words, site, reader, writer),
-        Task::Pair { first, second } => run_pair(rt, first, second, writer),
+        Task::Pair { first, second } => run_pair(rt, first, second, reader.budget(), writer),
         Task::Run(words) => write_fault(writer, site.run_site(rt, words)),
         Task::Ask { file } => run_ask(rt, file, writer),
         Task::Answer { file } => run_answer(rt, file, reader, writer),

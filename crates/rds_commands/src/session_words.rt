@@ -1,7 +1,7 @@
 //! The words of commands that make sessions.
 ghost use Rattle.std.specs.Prelude.{◌≡◌, ◌≤◌, ◌⊎◌, ◌||◌, Err, false, IsSome, None};
 ghost use Rattle.rds_names.specs.declared.fault.Fault.TheVariants.{Usage};
-ghost use Rattle.rds_lines.specs.Streams.{Emits, stream_of};
+ghost use Rattle.rds_lines.specs.Streams.{Emits, reading_of, writing_of};
 ghost use Rattle.rds_commands.specs.Told.{
   RefusesServe,
   RefusesSync,
@@ -25,7 +25,7 @@ use crate::offline::status_for;
 use crate::site::RunSite;
 use crate::visits::{is_site, write_visit};
 use rds_files::{Disk, LockFile, is_beside};
-use rds_keep::Counted;
+use rds_keep::{Reading, Writing};
 use rds_meetings::{pair_files, pipe_file, serve_file, sync_file};
 use rds_names::Fault;
 use rds_output::write_fault;
@@ -41,13 +41,13 @@ use std::time::Duration;
 pub fn run_serve<H: Disk + Net, R: Read, W: Write>(
     rt: &H,
     words: ServeWords<'_>,
-    reader: &mut Counted<R>,
-    writer: &mut Counted<W>,
+    reader: &mut Reading<R>,
+    writer: &mut Writing<W>,
 ) -> u8
 where
     H::File: LockFile,
-    ensures written { Emits (WritesServe words.entry (stream_of R.remaining reader.old reader.new))
-        (stream_of W.contents writer.old writer.new) result }
+    ensures written { Emits (WritesServe words.entry (reading_of R.remaining reader.old reader.new))
+        (writing_of W.contents writer.old writer.new) result }
     ensures status { result ≤ 2 }
     ensures broken { (writer.new.failed ≡ writer.old.failed) ⊎ (result ≡ 1) }
 {
@@ -58,12 +58,12 @@ where
 }
 
 // Serves at an address.
-fn serve_at<H: Disk + Net, W: Write>(rt: &H, words: ServeWords<'_>, writer: &mut Counted<W>) -> u8
+fn serve_at<H: Disk + Net, W: Write>(rt: &H, words: ServeWords<'_>, writer: &mut Writing<W>) -> u8
 where
     H::File: LockFile,
-    ensures written { Emits (WritesServeAt words.entry) (stream_of W.contents writer.old writer.new) result }
+    ensures written { Emits (WritesServeAt words.entry) (writing_of W.contents writer.old writer.new) result }
     ensures refused { RefusesServe words.entry
-        → Emits (Writes (Err Usage)) (stream_of W.contents writer.old writer.new) result }
+        → Emits (Writes (Err Usage)) (writing_of W.contents writer.old writer.new) result }
     ensures status { result ≤ 2 }
     ensures broken { (writer.new.failed ≡ writer.old.failed) ⊎ (result ≡ 1) }
 {
@@ -87,13 +87,13 @@ where
 fn serve_piped<H: Disk, R: Read, W: Write>(
     rt: &H,
     words: ServeWords<'_>,
-    reader: &mut Counted<R>,
-    writer: &mut Counted<W>,
+    reader: &mut Reading<R>,
+    writer: &mut Writing<W>,
 ) -> u8
 where
     H::File: LockFile,
     ensures written { WritesPiped Server words.entry.file.now (RefusesServe words.entry)
-        (stream_of R.remaining reader.old reader.new)
+        (reading_of R.remaining reader.old reader.new)
         (W.contents writer.old.inner) (W.contents writer.new.inner) result }
     ensures refused { RefusesServe words.entry
         → WritesNothing Usage (W.contents writer.old.inner) (W.contents writer.new.inner) result }
@@ -118,13 +118,13 @@ pub fn run_sync<H: Disk + Net, R: Read, W: Write, T: RunSite<H>>(
     rt: &H,
     words: SyncWords<'_>,
     site: &T,
-    reader: &mut Counted<R>,
-    writer: &mut Counted<W>,
+    reader: &mut Reading<R>,
+    writer: &mut Writing<W>,
 ) -> u8
 where
     H::File: LockFile,
-    ensures written { Emits (WritesSyncing words.entry (stream_of R.remaining reader.old reader.new))
-        (stream_of W.contents writer.old writer.new) result }
+    ensures written { Emits (WritesSyncing words.entry (reading_of R.remaining reader.old reader.new))
+        (writing_of W.contents writer.old writer.new) result }
     ensures status { result ≤ 2 }
     ensures broken { (writer.new.failed ≡ writer.old.failed) ⊎ (result ≡ 1) }
 {
@@ -142,11 +142,11 @@ fn sync_site<H: Disk, W: Write, T: RunSite<H>>(
     rt: &H,
     words: SyncWords<'_>,
     site: &T,
-    writer: &mut Counted<W>,
+    writer: &mut Writing<W>,
 ) -> u8
-    ensures written { Emits (WritesSyncSite words.entry) (stream_of W.contents writer.old writer.new) result }
+    ensures written { Emits (WritesSyncSite words.entry) (writing_of W.contents writer.old writer.new) result }
     ensures refused { RefusesSync words.entry
-        → Emits (Writes (Err Usage)) (stream_of W.contents writer.old writer.new) result }
+        → Emits (Writes (Err Usage)) (writing_of W.contents writer.old writer.new) result }
     ensures status { result ≤ 2 }
     ensures broken { (writer.new.failed ≡ writer.old.failed) ⊎ (result ≡ 1) }
 {
@@ -164,12 +164,12 @@ fn sync_site<H: Disk, W: Write, T: RunSite<H>>(
 }
 
 // Calls the peer at an address.
-fn sync_at<H: Disk + Net, W: Write>(rt: &H, words: SyncWords<'_>, writer: &mut Counted<W>) -> u8
+fn sync_at<H: Disk + Net, W: Write>(rt: &H, words: SyncWords<'_>, writer: &mut Writing<W>) -> u8
 where
     H::File: LockFile,
-    ensures written { Emits (WritesSyncAt words.entry) (stream_of W.contents writer.old writer.new) result }
+    ensures written { Emits (WritesSyncAt words.entry) (writing_of W.contents writer.old writer.new) result }
     ensures refused { RefusesSync words.entry
-        → Emits (Writes (Err Usage)) (stream_of W.contents writer.old writer.new) result }
+        → Emits (Writes (Err Usage)) (writing_of W.contents writer.old writer.new) result }
     ensures status { result ≤ 2 }
     ensures broken { (writer.new.failed ≡ writer.old.failed) ⊎ (result ≡ 1) }
 {
@@ -189,13 +189,13 @@ where
 fn sync_piped<H: Disk, R: Read, W: Write>(
     rt: &H,
     words: SyncWords<'_>,
-    reader: &mut Counted<R>,
-    writer: &mut Counted<W>,
+    reader: &mut Reading<R>,
+    writer: &mut Writing<W>,
 ) -> u8
 where
     H::File: LockFile,
     ensures written { WritesPiped (Client Five) words.entry.file.now (RefusesSync words.entry)
-        (stream_of R.remaining reader.old reader.new)
+        (reading_of R.remaining reader.old reader.new)
         (W.contents writer.old.inner) (W.contents writer.new.inner) result }
     ensures refused { RefusesSync words.entry
         → WritesNothing Usage (W.contents writer.old.inner) (W.contents writer.new.inner) result }
@@ -230,16 +230,17 @@ fn seconds_of(words: &SyncWords<'_>) -> Option<u64>
     Some(seconds)
 }
 
-/// One session of the replicas in two files. A path that ends in `.new` is `Usage`, and neither file is used.
+/// One session of the replicas in two files, of at most so many turns. A path that ends in `.new` is `Usage`, and neither file is used.
 pub fn run_pair<H: Disk + Net, W: Write>(
     rt: &H,
     first: &str,
     second: &str,
-    writer: &mut Counted<W>,
+    turns: u64,
+    writer: &mut Writing<W>,
 ) -> u8
 where
     H::File: LockFile,
-    ensures written { Emits (WritesPairing first.now second.now) (stream_of W.contents writer.old writer.new) result }
+    ensures written { Emits (WritesPairing first.now second.now) (writing_of W.contents writer.old writer.new) result }
     ensures status { result ≤ 2 }
     ensures broken { (writer.new.failed ≡ writer.old.failed) ⊎ (result ≡ 1) }
 {
@@ -248,7 +249,7 @@ where
         note_beside(rt, second);
         return write_fault(writer, Fault::Usage);
     }
-    pair_files(rt, first, second, writer)
+    pair_files(rt, first, second, turns, writer)
 }
 
 // How many sessions a number asks for: none is no end.

@@ -1,6 +1,6 @@
 //! Commands on the replica in a file, and what is written of them.
 ghost use Rattle.std.specs.Prelude.{◌≡◌, ◌≤◌, ◌⊎◌, IfOk, IsOk};
-ghost use Rattle.rds_lines.specs.Streams.{Emits, stream_of};
+ghost use Rattle.rds_lines.specs.Streams.{Emits, writing_of};
 ghost use Rattle.rds_output.specs.declared.reply.Reply.TheVariants.{Done};
 ghost use Rattle.rds_words.specs.Meaning.{names_for};
 ghost use Rattle.rds_commands.specs.Offline.{WritesText};
@@ -25,7 +25,7 @@ use crate::outcome::told;
 use crate::site::{RunSite, SiteRequest};
 use crate::visits::is_site;
 use rds_files::{Disk, LockFile};
-use rds_keep::Counted;
+use rds_keep::Writing;
 use rds_lines::Layout;
 use rds_names::Fault;
 use rds_output::{Reply, status_of, write_reply};
@@ -33,10 +33,10 @@ use rds_words::{EditWords, GrowWords, InitWords, names_in};
 use std::io::Write;
 
 /// Makes a file as `init_file` does, and writes the answer.
-pub fn run_init<H: Disk, W: Write>(rt: &H, words: &InitWords<'_>, writer: &mut Counted<W>) -> u8
+pub fn run_init<H: Disk, W: Write>(rt: &H, words: &InitWords<'_>, writer: &mut Writing<W>) -> u8
 where
     H::File: LockFile,
-    ensures written { Emits (WritesInit words.now) (stream_of W.contents writer.old writer.new) result }
+    ensures written { Emits (WritesInit words.now) (writing_of W.contents writer.old writer.new) result }
     ensures status { result ≤ 2 }
     ensures broken { (writer.new.failed ≡ writer.old.failed) ⊎ (result ≡ 1) }
 {
@@ -50,11 +50,11 @@ pub fn run_grow<H: Disk, W: Write, T: RunSite<H>>(
     rt: &H,
     words: &GrowWords<'_>,
     site: &T,
-    writer: &mut Counted<W>,
+    writer: &mut Writing<W>,
 ) -> u8
 where
     H::File: LockFile,
-    ensures written { Emits (WritesGrowing words.now) (stream_of W.contents writer.old writer.new) result }
+    ensures written { Emits (WritesGrowing words.now) (writing_of W.contents writer.old writer.new) result }
     ensures status { result ≤ 2 }
     ensures broken { (writer.new.failed ≡ writer.old.failed) ⊎ (result ≡ 1) }
 {
@@ -65,10 +65,10 @@ where
 }
 
 // Adds replicas to the group of the replica in a file.
-fn grow_here<H: Disk, W: Write>(rt: &H, words: &GrowWords<'_>, writer: &mut Counted<W>) -> u8
+fn grow_here<H: Disk, W: Write>(rt: &H, words: &GrowWords<'_>, writer: &mut Writing<W>) -> u8
 where
     H::File: LockFile,
-    ensures written { Emits (WritesGrow words.now) (stream_of W.contents writer.old writer.new) result }
+    ensures written { Emits (WritesGrow words.now) (writing_of W.contents writer.old writer.new) result }
     ensures status { result ≤ 2 }
     ensures broken { (writer.new.failed ≡ writer.old.failed) ⊎ (result ≡ 1) }
 {
@@ -113,10 +113,10 @@ fn ask_for_names<H: Disk, T: RunSite<H>>(
 }
 
 /// Writes a file anew as `compact_file` does, and writes the answer.
-pub fn run_compact<H: Disk, W: Write>(rt: &H, path: &str, writer: &mut Counted<W>) -> u8
+pub fn run_compact<H: Disk, W: Write>(rt: &H, path: &str, writer: &mut Writing<W>) -> u8
 where
     H::File: LockFile,
-    ensures written { Emits (WritesCompact path.now) (stream_of W.contents writer.old writer.new) result }
+    ensures written { Emits (WritesCompact path.now) (writing_of W.contents writer.old writer.new) result }
     ensures status { result ≤ 2 }
     ensures broken { (writer.new.failed ≡ writer.old.failed) ⊎ (result ≡ 1) }
 {
@@ -129,11 +129,11 @@ pub fn run_edit<H: Disk, W: Write>(
     rt: &H,
     path: &str,
     words: &EditWords<'_>,
-    writer: &mut Counted<W>,
+    writer: &mut Writing<W>,
 ) -> u8
 where
     H::File: LockFile,
-    ensures written { Emits (WritesEdit path.now words.now) (stream_of W.contents writer.old writer.new) result }
+    ensures written { Emits (WritesEdit path.now words.now) (writing_of W.contents writer.old writer.new) result }
     ensures status { result ≤ 2 }
     ensures broken { (writer.new.failed ≡ writer.old.failed) ⊎ (result ≡ 1) }
 {
@@ -152,11 +152,11 @@ pub fn run_edit_if_changed<H: Disk, W: Write>(
     rt: &H,
     path: &str,
     words: &EditWords<'_>,
-    writer: &mut Counted<W>,
+    writer: &mut Writing<W>,
 ) -> u8
 where
     H::File: LockFile,
-    ensures written { Emits (WritesIfChanged path.now words.now) (stream_of W.contents writer.old writer.new) result }
+    ensures written { Emits (WritesIfChanged path.now words.now) (writing_of W.contents writer.old writer.new) result }
     ensures status { result ≤ 2 }
     ensures broken { (writer.new.failed ≡ writer.old.failed) ⊎ (result ≡ 1) }
 {
@@ -177,9 +177,9 @@ pub fn run_show<H: Disk, W: Write>(
     path: &str,
     text: &str,
     layout: Layout,
-    writer: &mut Counted<W>,
+    writer: &mut Writing<W>,
 ) -> u8
-    ensures written { Emits (WritesShow layout path.now text.now) (stream_of W.contents writer.old writer.new) result }
+    ensures written { Emits (WritesShow layout path.now text.now) (writing_of W.contents writer.old writer.new) result }
     ensures status { result ≤ 2 }
     ensures broken { (writer.new.failed ≡ writer.old.failed) ⊎ (result ≡ 1) }
 {
@@ -188,8 +188,8 @@ pub fn run_show<H: Disk, W: Write>(
 }
 
 /// Writes a topic of `help`.
-pub fn run_text<W: Write>(text: &str, writer: &mut Counted<W>) -> u8
-    ensures written { Emits (WritesText text.now) (stream_of W.contents writer.old writer.new) result }
+pub fn run_text<W: Write>(text: &str, writer: &mut Writing<W>) -> u8
+    ensures written { Emits (WritesText text.now) (writing_of W.contents writer.old writer.new) result }
     ensures status { result ≤ 2 }
     ensures broken { (writer.new.failed ≡ writer.old.failed) ⊎ (result ≡ 1) }
 {

@@ -3,7 +3,7 @@ ghost use Rattle.std.specs.Prelude.{◌≡◌, ◌≤◌, OnOk, OnErr};
 ghost use Rattle.clap.specs.Words.{kind_of};
 ghost use Rattle.rds_names.specs.declared.fault.Fault.TheVariants.{Memory, Usage};
 ghost use Rattle.rds_keep.specs.Counted.{one_more};
-ghost use Rattle.rds_lines.specs.Streams.{Emits, stream_of};
+ghost use Rattle.rds_lines.specs.Streams.{Emits, writing_of};
 ghost use Rattle.rds_keep.specs.Parts.{AppendsFront, BytesGrow};
 ghost use Rattle.rds_output.specs.Output.{AnswersStatus, fault_line};
 ghost use Rattle.rds_commands.specs.Unparsed.{AppendsBehind, WritesUnparsed, unparsed_status};
@@ -12,7 +12,7 @@ use crate::tips::{command_in, note_below_zero, shown_text};
 use clap::Error;
 use clap::error::ErrorKind;
 use rds_files::Disk;
-use rds_keep::Counted;
+use rds_keep::Writing;
 use rds_names::Fault;
 use rds_output::{status_of, write_fault_line};
 use std::alloc::Global;
@@ -24,10 +24,10 @@ use std::io::Write;
 pub fn write_unparsed<H: Disk, W: Write, S: AsStr>(
     rt: &H,
     words: &[S],
-    writer: &mut Counted<W>,
+    writer: &mut Writing<W>,
     error: &Error,
 ) -> u8
-    ensures written { Emits (WritesUnparsed (kind_of error.now)) (stream_of W.contents writer.old writer.new) result }
+    ensures written { Emits (WritesUnparsed (kind_of error.now)) (writing_of W.contents writer.old writer.new) result }
     ensures part { kind_of error.now ≡ ErrorKind.OutOfMemory
         → AppendsFront (W.contents writer.old.inner) (W.contents writer.new.inner) (fault_line Memory) }
     ensures kept { BytesGrow (W.contents writer.old.inner) (W.contents writer.new.inner) }
@@ -51,7 +51,7 @@ pub fn write_unparsed<H: Disk, W: Write, S: AsStr>(
 fn write_usage<W: Write>(
     alloc: Global,
     command: &str,
-    writer: &mut Counted<W>,
+    writer: &mut Writing<W>,
     error: &Error,
 ) -> Result<(), Fault>
     ensures bytes { OnOk result (AppendsBehind (W.contents writer.old.inner)
@@ -68,7 +68,7 @@ fn write_usage<W: Write>(
 fn write_text<W: Write>(
     alloc: Global,
     command: &str,
-    writer: &mut Counted<W>,
+    writer: &mut Writing<W>,
     error: &Error,
 ) -> Result<(), Fault>
     ensures bytes { BytesGrow (W.contents writer.old.inner) (W.contents writer.new.inner) }

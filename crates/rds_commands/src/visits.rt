@@ -3,11 +3,11 @@ ghost use Rattle.std.specs.Prelude.{◌≡◌, ◌≤◌, ◌⊎◌, None, IfErr
 ghost use Rattle.std.specs.Io.KnownBytes.{Appends};
 ghost use Rattle.rds_names.specs.declared.fault.Fault.TheVariants.{Device};
 ghost use Rattle.rds_keep.specs.Counted.{one_more};
-ghost use Rattle.rds_lines.specs.Streams.{Emits, stream_of};
+ghost use Rattle.rds_lines.specs.Streams.{Emits, writing_of};
 ghost use Rattle.rds_commands.specs.Visits.{WritesVisitOf, is_site, taken_text};
 
 use crate::site::Visit;
-use rds_keep::Counted;
+use rds_keep::Writing;
 use rds_names::Fault;
 use rds_output::{Reply, write_fault};
 use std::io::Write;
@@ -21,8 +21,8 @@ pub fn is_site(addr: &str) -> bool
 
 /// Writes what came of a meeting, and answers the status: how many components were taken, where an answer was judged,
 /// and then the fault that ended it. Where the output fails the status is 1.
-pub fn write_visit<W: Write>(writer: &mut Counted<W>, visit: Visit) -> u8
-    ensures written { Emits (WritesVisitOf visit.taken visit.fault) (stream_of W.contents writer.old writer.new) result }
+pub fn write_visit<W: Write>(writer: &mut Writing<W>, visit: Visit) -> u8
+    ensures written { Emits (WritesVisitOf visit.taken visit.fault) (writing_of W.contents writer.old writer.new) result }
     ensures status { result ≤ 2 }
     ensures broken { (writer.new.failed ≡ writer.old.failed) ⊎ (result ≡ 1) }
 {
@@ -33,7 +33,7 @@ pub fn write_visit<W: Write>(writer: &mut Counted<W>, visit: Visit) -> u8
 }
 
 // Writes how many components were taken.
-fn write_taken<W: Write>(writer: &mut Counted<W>, taken: Option<u128>) -> Result<(), Fault>
+fn write_taken<W: Write>(writer: &mut Writing<W>, taken: Option<u128>) -> Result<(), Fault>
     ensures bytes { OnOk result (Appends (W.contents writer.old.inner)
         (W.contents writer.new.inner) (taken_text taken)) }
     ensures fault { IfErr result (λ e. e ≡ Device) }
@@ -47,8 +47,8 @@ fn write_taken<W: Write>(writer: &mut Counted<W>, taken: Option<u128>) -> Result
 }
 
 // Writes the fault that ended a meeting.
-fn write_ending<W: Write>(writer: &mut Counted<W>, fault: Option<Fault>) -> u8
-    ensures written { Emits (WritesVisitOf None fault) (stream_of W.contents writer.old writer.new) result }
+fn write_ending<W: Write>(writer: &mut Writing<W>, fault: Option<Fault>) -> u8
+    ensures written { Emits (WritesVisitOf None fault) (writing_of W.contents writer.old writer.new) result }
     ensures status { result ≤ 2 }
     ensures broken { (writer.new.failed ≡ writer.old.failed) ⊎ (result ≡ 1) }
 {

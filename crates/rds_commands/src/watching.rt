@@ -1,13 +1,13 @@
 //! The command that follows a site.
 ghost use Rattle.std.specs.Prelude.{◌≡◌, ◌≤◌, ◌⊎◌};
-ghost use Rattle.rds_lines.specs.Streams.{Emits, stream_of};
+ghost use Rattle.rds_lines.specs.Streams.{Emits, writing_of};
 ghost use Rattle.rds_commands.specs.Told.{EndsWatch, WritesWatch};
 
 use crate::notes::{note_no_site, note_part};
 use crate::site::RunSite;
 use crate::visits::is_site;
 use rds_files::Disk;
-use rds_keep::Counted;
+use rds_keep::Writing;
 use rds_names::{Fault, Path};
 use rds_output::write_fault;
 use rds_words::WatchWords;
@@ -19,9 +19,9 @@ pub fn run_watch<H: Disk, W: Write, T: RunSite<H>>(
     rt: &H,
     words: WatchWords<'_>,
     site: &T,
-    writer: &mut Counted<W>,
+    writer: &mut Writing<W>,
 ) -> u8
-    ensures written { Emits (WritesWatch words.entry) (stream_of W.contents writer.old writer.new) result }
+    ensures written { Emits (WritesWatch words.entry) (writing_of W.contents writer.old writer.new) result }
     ensures status { result ≤ 2 }
     ensures broken { (writer.new.failed ≡ writer.old.failed) ⊎ (result ≡ 1) }
 {

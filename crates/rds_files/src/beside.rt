@@ -10,7 +10,7 @@ use crate::locks::LockFile;
 use crate::standing::check_standing;
 use rds_codec::{Format, LIMIT, snapshot_length};
 use rds_dots::DotSet;
-use rds_keep::{Counted, Kept, Layout, Place, WasKept, keep_in};
+use rds_keep::{Kept, Layout, Place, Placing, WasKept, keep_in};
 use rds_names::Fault;
 use rds_state::Replica;
 use std::alloc::Global;
@@ -175,7 +175,7 @@ fn keep_made<H: Disk, S: DotSet>(
     ensures limit { OnOk result (length (snapshot_text replica) ≤ LIMIT) }
     ensures long { LIMIT < length (snapshot_text replica) → IfErr result IsTooLongOrLost }
 {
-    let kept = keep_in(rt.alloc(), replica, &mut Counted::new(&mut *beside));
+    let kept = keep_in(rt.alloc(), replica, &mut Placing::new(&mut *beside));
     match kept {
         Err(Fault::Device) if beside.is_renamed => Err(Fault::Unsure),
         kept => kept,

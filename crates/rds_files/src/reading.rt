@@ -9,7 +9,7 @@ use crate::disk::{Disk, note};
 use crate::lasting::make_last;
 use crate::targets::Target;
 use rds_dots::DotSet;
-use rds_keep::{Counted, Layout, Refused, Stored, read_stored};
+use rds_keep::{Layout, Reading, Refused, Stored, read_stored};
 use rds_names::Fault;
 use std::fs;
 use std::io::Read;
@@ -48,7 +48,7 @@ fn read_unlocked<H: Disk, S: DotSet>(
     ensures long { IfErr result (λ fault. fault ≡ TooLong → HoldsTooMuch H.File.remaining) }
 {
     let mut file = open_file(rt, place)?;
-    match read_stored(rt.alloc(), &mut Counted::new(&mut file)) {
+    match read_stored(rt.alloc(), &mut Reading::new(&mut file)) {
         Ok(stored) if !is_torn(&stored.layout) => Ok((file, stored)),
         Ok(_) => read_again(rt, path, place),
         Err(refused) if is_damage(&refused) => read_again(rt, path, place),
@@ -93,7 +93,7 @@ pub fn read_kept<H: Disk, S: DotSet, R: Read>(
     ensures long { IfErr result
         (λ fault. fault ≡ TooLong → IfSome (R.remaining file.old) (λ input. LIMIT < length input)) }
 {
-    match read_stored(rt.alloc(), &mut Counted::new(file)) {
+    match read_stored(rt.alloc(), &mut Reading::new(file)) {
         Ok(stored) => {
             note_torn(rt, path, &stored.layout);
             Ok(stored)

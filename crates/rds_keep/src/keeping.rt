@@ -40,8 +40,8 @@ pub fn keep_in<S: DotSet, P: Place>(
     ensures steady { OnOk result (place.new.writing.failed ≡ place.old.writing.failed) }
 {
     let bytes = encode_file(alloc, &replica)?;
-    place.write_all(bytes.as_slice())?;
-    place.sync()?;
+    place.writing().write_all(bytes.as_slice())?;
+    place.writing().sync()?;
     place.rename()?;
     Ok(Kept::new(replica))
 }

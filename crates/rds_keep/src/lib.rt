@@ -2,12 +2,12 @@
 //! `Kept` is a replica whose text was written whole or read whole.
 #![tactic(auto)]
 
+mod beginnings;
 mod change;
 mod changed;
 mod fed;
 mod feeding;
 mod feeds;
-mod fronts;
 mod keeping;
 mod kept;
 mod layout;

@@ -1,4 +1,4 @@
-//! A reader, with a count of the calls on it that failed. Only what stands here can raise the count; `fronts`,
+//! A reader, with a count of the calls on it that failed. Only what stands here can raise the count; `beginnings`,
 //! `feeding` and `leading`, which make calls one after the other, can't.
 ghost use Rattle.std.specs.Prelude.{◌≡◌, ◌-◌, ◌<◌, ◌≤◌, length, IfOk, IfErr, OnOk, OnErr};
 ghost use Rattle.std.specs.Io.KnownBytes.{ReadConsumes};

@@ -7,7 +7,7 @@ use Rattle.std.proofs.KnownBytes.{Appends-nil, Appends-trans, Consumes-nil, Cons
 use Rattle.std.proofs.lemmas.List.{append-nil}
 use Rattle.rds_names.specs.declared.fault.Fault.{Fault}
 use Rattle.rds_names.specs.declared.fault.Fault.TheVariants.{Device}
-use Rattle.rds_keep.specs.Counted.{CountedValue, HasFailed}
+use Rattle.rds_keep.specs.Counted.{HasFailed}
 use Rattle.rds_keep.specs.Parts.{AppendsFront, AppendsPart}
 use Rattle.rds_lines.specs.Lines.{IsOneLine, ReadsText, ended_lines, until_newline, lines_in}
 use Rattle.rds_lines.specs.Ahead.{IsOfSomeLine, LosesPiece, TakesLine}
@@ -112,8 +112,8 @@ lines_of now next lines given piece taken one lost = elim taken [
 ]
 
 -- a count that stood still so far
-pub failed_since : {T : Type 0} (first now next : CountedValue T) → now.failed ≡ first.failed → HasFailed now next → HasFailed first next
-failed_since first now next same h = subst (λ (n : ℕ). (n < next.failed) ⊎ (next.failed ≡ 2 ^ 64 - 1)) same h
+pub failed_since : (first now next : ℕ) → now ≡ first → HasFailed now next → HasFailed first next
+failed_since first now next same h = subst (λ (n : ℕ). (n < next) ⊎ (next ≡ 2 ^ 64 - 1)) same h
 
 -- the bytes that were read ahead are given too
 given_ahead : (first held : Option (List ℕ)) (given ahead : List ℕ) → Consumes first (prepend_known ahead held) given → Consumes first held (given ++ ahead)

@@ -1,6 +1,6 @@
 -- What becomes of a reader or a writer in a run.
 use Rattle.std.specs.Prelude.{◌≢◌, ◌-◌, ℕ, List, Option}
-use Rattle.rds_keep.specs.Counted.{CountedValue, HasFailed}
+use Rattle.rds_keep.specs.Counted.{HasFailed, ReadingValue, WritingValue}
 
 -- the bytes that a reader holds, or that a writer has got, at first and at last, where they are known; how many reads a
 -- loop made at most; whether a call may have failed, and whether the count of those that did rose
@@ -11,12 +11,22 @@ pub record Stream : Type 1 where
   pub MayHaveFailed : Type 0
   pub CountRose : Type 0
 
-abbrev pub stream_of : {T : Type 0} → (T → Option (List ℕ)) → CountedValue T → CountedValue T → Stream
-stream_of bytes old new = record {
-  before = bytes old.inner;
-  after = bytes new.inner;
+abbrev pub reading_of : {R : Type 0} → (R → Option (List ℕ)) → ReadingValue R → ReadingValue R → Stream
+reading_of remaining old new = record {
+  before = remaining old.inner;
+  after = remaining new.inner;
   reads = old.budget - new.left;
-  MayHaveFailed = HasFailed old new;
+  MayHaveFailed = HasFailed old.failed new.failed;
+  CountRose = new.failed ≢ old.failed;
+}
+
+-- a writer is never read
+abbrev pub writing_of : {W : Type 0} → (W → Option (List ℕ)) → WritingValue W → WritingValue W → Stream
+writing_of contents old new = record {
+  before = contents old.inner;
+  after = contents new.inner;
+  reads = 0;
+  MayHaveFailed = HasFailed old.failed new.failed;
   CountRose = new.failed ≢ old.failed;
 }
 

@@ -33,7 +33,7 @@ ghost use Rattle.rds_lines.specs.Ahead.{
 ghost use Rattle.rds_lines.specs.Lines.{ReadsText, after_line, until_newline};
 
 use crate::lines::split_line;
-use rds_keep::Counted;
+use rds_keep::Reading;
 use rds_names::Fault;
 use std::alloc::Global;
 use std::io::Read;
@@ -86,12 +86,12 @@ impl Ahead {
     pub fn next_line<R: Read>(
         &mut self,
         alloc: Global,
-        reader: &mut Counted<R>,
+        reader: &mut Reading<R>,
     ) -> Result<Option<Result<String, Fault>>, Fault>
         ensures taken { IfOk result (TakesLine (bytes_untaken self.old (R.remaining reader.old.inner))
             (bytes_untaken self.new (R.remaining reader.new.inner))) }
         ensures line { IfOk result (λ line. IfSome line IsOfSomeLine) }
-        ensures fault { IfErr result (λ e. (e ≡ Device) × HasFailed reader.old reader.new) }
+        ensures fault { IfErr result (λ e. (e ≡ Device) × HasFailed reader.old.failed reader.new.failed) }
         ensures piece { IfErr result (λ _. LosesPiece (bytes_untaken self.old (R.remaining reader.old.inner))
             (R.remaining reader.new.inner)) }
         ensures bound { ConsumesAtMost (R.remaining reader.old.inner) (R.remaining reader.new.inner)
@@ -118,11 +118,11 @@ impl Ahead {
     }
 
     // Reads where nothing is ahead.
-    fn fill<R: Read>(&mut self, reader: &mut Counted<R>) -> Result<(), Fault>
+    fn fill<R: Read>(&mut self, reader: &mut Reading<R>) -> Result<(), Fault>
         ensures kept { OnOk result (Keeps (bytes_untaken self.old (R.remaining reader.old.inner))
             (bytes_untaken self.new (R.remaining reader.new.inner))) }
         ensures end { OnOk result (self.new ≡ [] → IsAtEnd (R.remaining reader.new.inner)) }
-        ensures fault { IfErr result (λ e. (e ≡ Device) × HasFailed reader.old reader.new) }
+        ensures fault { IfErr result (λ e. (e ≡ Device) × HasFailed reader.old.failed reader.new.failed) }
         ensures unread { OnErr result (Keeps (bytes_untaken self.old (R.remaining reader.old.inner))
             (R.remaining reader.new.inner)) }
         ensures bound { ConsumesAtMost (R.remaining reader.old.inner) (R.remaining reader.new.inner)

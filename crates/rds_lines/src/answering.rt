@@ -1,10 +1,10 @@
 //! Lines that are answered one after the other.
 ghost use Rattle.std.specs.Prelude.{◌≡◌, ◌≤◌, ◌++◌, ◌∷◌, ◌||◌, ◌⊎◌};
 ghost use Rattle.rds_lines.specs.Answering.{AnswersLines};
-ghost use Rattle.rds_lines.specs.Streams.{stream_of};
+ghost use Rattle.rds_lines.specs.Streams.{reading_of, writing_of};
 
 use crate::ahead::Ahead;
-use rds_keep::Counted;
+use rds_keep::{Reading, Writing};
 use rds_names::Fault;
 use rds_output::{Reply, write_fault};
 use std::alloc::Global;
@@ -35,11 +35,11 @@ pub trait Answers {
 pub fn answer_lines<A: Answers, R: Read, W: Write>(
     alloc: Global,
     answers: &mut A,
-    reader: &mut Counted<R>,
-    writer: &mut Counted<W>,
+    reader: &mut Reading<R>,
+    writer: &mut Writing<W>,
 ) -> u8
-    ensures answered { AnswersLines (A.may_answer answers.old) (stream_of R.remaining reader.old reader.new)
-        (stream_of W.contents writer.old writer.new) result }
+    ensures answered { AnswersLines (A.may_answer answers.old) (reading_of R.remaining reader.old reader.new)
+        (writing_of W.contents writer.old writer.new) result }
     ensures status { result ≤ 1 }
     ensures broken { (writer.new.failed ≡ writer.old.failed) ⊎ (result ≡ 1) }
 {

@@ -18,13 +18,13 @@ ghost use Rattle.std.specs.Prelude.{
 ghost use Rattle.rds_names.specs.declared.fault.Fault.TheVariants.{BadLine, Memory};
 ghost use Rattle.rds_lines.specs.Editing.{AnswersNext, EditsLines, MeetsEdit, WritesAll, line_reply_of};
 ghost use Rattle.rds_lines.specs.Lines.{is_empty_line, is_text_line, lines_in};
-ghost use Rattle.rds_lines.specs.Streams.{Emits, stream_of};
+ghost use Rattle.rds_lines.specs.Streams.{Emits, writing_of};
 
 use crate::ahead::LINE_LIMIT;
 use crate::edits::Edits;
 use crate::lines::split_line;
 use rds_json::LineReader;
-use rds_keep::Counted;
+use rds_keep::Writing;
 use rds_names::Fault;
 use rds_output::Reply;
 use std::alloc::Global;
@@ -156,8 +156,8 @@ fn text_of(line: &[u8]) -> Result<&str, Fault>
 }
 
 /// Writes answers, a line each, and answers the status: 0, or 1 where one is a refusal or a call of the writer fails.
-pub fn write_replies<W: Write>(writer: &mut Counted<W>, answers: &[Reply]) -> u8
-    ensures written { Emits (WritesAll answers.now) (stream_of W.contents writer.old writer.new) result }
+pub fn write_replies<W: Write>(writer: &mut Writing<W>, answers: &[Reply]) -> u8
+    ensures written { Emits (WritesAll answers.now) (writing_of W.contents writer.old writer.new) result }
     ensures status { result ≤ 1 }
     ensures broken { (writer.new.failed ≡ writer.old.failed) ⊎ (result ≡ 1) }
 {

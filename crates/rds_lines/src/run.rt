@@ -6,14 +6,14 @@ ghost use Rattle.rds_lines.specs.Answering.{AnswersLines};
 ghost use Rattle.rds_lines.specs.Refusal.{refusal_fault};
 ghost use Rattle.rds_lines.specs.Run.{RunsJoin, IsJoinLine};
 ghost use Rattle.rds_lines.specs.Sim.{MayBeSimulated};
-ghost use Rattle.rds_lines.specs.Streams.{NoneFailed, stream_of};
+ghost use Rattle.rds_lines.specs.Streams.{NoneFailed, reading_of, writing_of};
 ghost use Rattle.rds_lines.specs.declared.run.TheConstants.{MOST};
 
 use crate::answering::answer_lines;
 use crate::join::join;
 use crate::refusal::Refusal;
 use crate::sim::Simulation;
-use rds_keep::Counted;
+use rds_keep::{Reading, Writing};
 use rds_output::{status_of, write_fault};
 use std::alloc::Global;
 use std::io::{Read, Write};
@@ -27,11 +27,11 @@ const MOST: usize = 1_073_741_827;
 /// the output fails it is 1, and a prefix of all that is written.
 pub fn run_sim<R: Read, W: Write>(
     alloc: Global,
-    reader: &mut Counted<R>,
-    writer: &mut Counted<W>,
+    reader: &mut Reading<R>,
+    writer: &mut Writing<W>,
 ) -> u8
-    ensures ran { AnswersLines MayBeSimulated (stream_of R.remaining reader.old reader.new)
-        (stream_of W.contents writer.old writer.new) result }
+    ensures ran { AnswersLines MayBeSimulated (reading_of R.remaining reader.old reader.new)
+        (writing_of W.contents writer.old writer.new) result }
     ensures status { result ≤ 1 }
     ensures broken { (writer.new.failed ≡ writer.old.failed) ⊎ (result ≡ 1) }
 {
@@ -43,11 +43,11 @@ pub fn run_sim<R: Read, W: Write>(
 /// prefix of that is written.
 pub fn run_join<R: Read, W: Write>(
     alloc: Global,
-    reader: &mut Counted<R>,
-    writer: &mut Counted<W>,
+    reader: &mut Reading<R>,
+    writer: &mut Writing<W>,
 ) -> u8
-    ensures ran { RunsJoin (stream_of R.remaining reader.old reader.new)
-        (stream_of W.contents writer.old writer.new) result }
+    ensures ran { RunsJoin (reading_of R.remaining reader.old reader.new)
+        (writing_of W.contents writer.old writer.new) result }
     ensures status { result ≤ 2 }
     ensures broken { (writer.new.failed ≡ writer.old.failed) ⊎ (result ≡ 1) }
 {
@@ -58,9 +58,9 @@ pub fn run_join<R: Read, W: Write>(
 }
 
 // The line that `join` answers for all that the reader holds.
-fn join_line<R: Read>(alloc: Global, reader: &mut Counted<R>) -> Result<String, Refusal>
+fn join_line<R: Read>(alloc: Global, reader: &mut Reading<R>) -> Result<String, Refusal>
     ensures line { IfSome (R.remaining reader.old.inner)
-        (λ input. NoneFailed (stream_of R.remaining reader.old reader.new) → IsJoinLine input result) }
+        (λ input. NoneFailed (reading_of R.remaining reader.old reader.new) → IsJoinLine input result) }
     ensures unread { reader.new.failed ≢ reader.old.failed
         → IsErrAnd result (λ e. refusal_fault e ≡ Device) }
     ensures most { ConsumesAtMost (R.remaining reader.old.inner) (R.remaining reader.new.inner) MOST }

@@ -14,7 +14,7 @@ use crate::reports::note_peer;
 use crate::settling::{Settled, settle_exchanged};
 use rds_dots::DotSet;
 use rds_files::{Disk, LockFile, ReplicaFile, note};
-use rds_keep::Counted;
+use rds_keep::{Reading, Writing};
 use rds_names::Fault;
 use rds_session::{Ended, Side, exchange};
 use std::io;
@@ -66,7 +66,7 @@ impl<T: Read + OpenStream + Drop> Met<T> {
     pub fn let_go<C: Clock>(self, clock: &C) {
         if let Some((mut stream, rest)) = self.rest {
             let pace = rest.pace(clock);
-            drop_rest(&mut Counted::new(Paced::new(&pace, &mut stream)));
+            drop_rest(&mut Reading::new(Paced::new(&pace, &mut stream)));
         }
     }
 }
@@ -95,8 +95,8 @@ where
                 rt,
                 side,
                 file,
-                &mut Counted::new(Paced::new(&pace, &mut stream)),
-                &mut Counted::new(Paced::new(&pace, &mut sending)),
+                &mut Reading::new(Paced::new(&pace, &mut stream)),
+                &mut Writing::new(Paced::new(&pace, &mut sending)),
             );
             let _ = sending.shutdown(Shutdown::Write);
             note_peer(rt, &stream, ended);
@@ -152,14 +152,15 @@ pub fn exchange_over<H: Disk, S: DotSet, R: Read, W: Write>(
     rt: &H,
     side: Side,
     file: &ReplicaFile<'_, S>,
-    reader: &mut Counted<R>,
-    writer: &mut Counted<W>,
+    reader: &mut Reading<R>,
+    writer: &mut Writing<W>,
 ) -> (Settled, Ended)
 where
     H::File: LockFile,
     ensures session { IsSession side (R.remaining reader.old.inner) (R.remaining reader.new.inner)
         (W.contents writer.old.inner) (W.contents writer.new.inner) file.now result.0 result.1 }
-    ensures device { result.1 ≡ Failed Device → HasFailed reader.old reader.new ⊎ HasFailed writer.old writer.new }
+    ensures device { result.1 ≡ Failed Device
+        → HasFailed reader.old.failed reader.new.failed ⊎ HasFailed writer.old.failed writer.new.failed }
     ensures broken { (writer.new.failed ≡ writer.old.failed) ⊎ (result.1 ≡ Failed Device) }
 {
     let exchanged = exchange(rt.alloc(), side, file.kept(), reader, writer);
@@ -169,7 +170,7 @@ where
 }
 
 // Reads to the end, within the reader's budget: no more than these give.
-fn drop_rest<R: Read>(reader: &mut Counted<R>)
+fn drop_rest<R: Read>(reader: &mut Reading<R>)
     ensures bound { ConsumesAtMost (R.remaining reader.old.inner) (R.remaining reader.new.inner)
         (most_heard (reader.old.budget - reader.new.left)) }
 {

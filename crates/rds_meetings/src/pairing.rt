@@ -22,7 +22,7 @@ pub use paired::PairedFile;
 use rds_dots::DotSet;
 use rds_files::{Disk, LockFile};
 use rds_gaps::GapSet;
-use rds_keep::Counted;
+use rds_keep::Writing;
 use rds_names::Fault;
 use rds_output::status_of;
 use rds_session::Ended;
@@ -42,11 +42,12 @@ pub fn pair_files<H: Disk + Net, W: Write>(
     rt: &H,
     first: &str,
     second: &str,
-    writer: &mut Counted<W>,
+    turns: u64,
+    writer: &mut Writing<W>,
 ) -> u8
 where
     H::File: LockFile,
-    ensures written { (HasFailed writer.old writer.new → ⊥)
+    ensures written { (HasFailed writer.old.failed writer.new.failed → ⊥)
         → WritesPair first.now second.now (W.contents writer.old.inner) (W.contents writer.new.inner) result }
     ensures status { result ≤ 1 }
     ensures broken { (writer.new.failed ≡ writer.old.failed) ⊎ (result ≡ 1) }
@@ -60,7 +61,7 @@ where
         Err(fault) => return give_up(writer, fault),
     };
     match connect(rt) {
-        Ok(link) => pair(rt, client, server, link, writer),
+        Ok(link) => pair(rt, client, server, link, turns, writer),
         Err(fault) => give_up(writer, fault),
     }
 }
@@ -69,29 +70,24 @@ where
 /// its file holds then, the first's first. Where the lock is held since the file was read, that is what was read. Then
 /// what the first received is reported, after that the second's, and then `Forked` where both took, and what they hold
 /// since is forked. Where the output fails at one, nothing more is reported, but what was received is taken all the
-/// same. The session has at most as many turns as the writer says.
+/// same. The session has at most so many turns.
 pub fn pair<H: Disk + Net, S: DotSet, W: Write>(
     rt: &H,
     client: PairedFile<'_, H, S>,
     server: PairedFile<'_, H, S>,
     link: Link<H::Stream>,
-    writer: &mut Counted<W>,
+    turns: u64,
+    writer: &mut Writing<W>,
 ) -> u8
 where
     H::File: LockFile,
-    ensures written { (HasFailed writer.old writer.new → ⊥)
+    ensures written { (HasFailed writer.old.failed writer.new.failed → ⊥)
         → WritesBoth (file_of client.entry) (file_of server.entry)
         (W.contents writer.old.inner) (W.contents writer.new.inner) result }
     ensures status { result ≤ 1 }
     ensures broken { (writer.new.failed ≡ writer.old.failed) ⊎ (result ≡ 1) }
 {
-    let (left, right) = meet(
-        rt.alloc(),
-        writer.budget(),
-        client.kept(),
-        server.kept(),
-        link,
-    );
+    let (left, right) = meet(rt.alloc(), turns, client.kept(), server.kept(), link);
     let (first_ended, second_ended) = (left.ended, right.ended);
     let (first_path, second_path) = (client.path(), server.path());
     let first = client.settle(rt, left);
@@ -110,7 +106,7 @@ where
 
 // Writes what one end came to, then the other, and then whether they are forked.
 fn write_both<W: Write>(
-    writer: &mut Counted<W>,
+    writer: &mut Writing<W>,
     first: &Settled,
     first_ended: Ended,
     second: &Settled,

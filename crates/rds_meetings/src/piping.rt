@@ -6,7 +6,7 @@ use crate::meeting::exchange_over;
 use crate::reports::{note_fault, note_report, note_told, tells_fault};
 use rds_files::{Disk, LockFile, ReplicaFile};
 use rds_gaps::GapSet;
-use rds_keep::Counted;
+use rds_keep::{Reading, Writing};
 use rds_names::Fault;
 use rds_session::Side;
 use std::io::{Read, Write};
@@ -19,8 +19,8 @@ pub fn pipe_file<H: Disk, R: Read, W: Write>(
     rt: &H,
     side: Side,
     path: &str,
-    reader: &mut Counted<R>,
-    writer: &mut Counted<W>,
+    reader: &mut Reading<R>,
+    writer: &mut Writing<W>,
 ) -> u8
 where
     H::File: LockFile,

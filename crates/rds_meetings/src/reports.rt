@@ -7,7 +7,7 @@ ghost use Rattle.rds_keep.specs.Parts.{AppendsPart};
 ghost use Rattle.rds_meetings.specs.Reports.{WritesFault, WritesReport, ended_text, report_text, settled_text, tells_fault};
 
 use crate::settling::Settled;
-use rds_keep::Counted;
+use rds_keep::Writing;
 use rds_names::Fault;
 use rds_output::{Digits, status_of, write_fault_line};
 use rds_session::Ended;
@@ -17,8 +17,8 @@ use std::net::OpenStream;
 /// Writes what a session came to, and answers the status: first what was taken into the replica in
 /// its file, or why it wasn't, then why the session failed, if it did. The status is 1 where a fault
 /// is reported, else 0; where the output fails it is 1.
-pub fn report<W: Write>(writer: &mut Counted<W>, settled: &Settled, ended: Ended) -> u8
-    ensures written { (HasFailed writer.old writer.new → ⊥) → WritesReport settled.now ended
+pub fn report<W: Write>(writer: &mut Writing<W>, settled: &Settled, ended: Ended) -> u8
+    ensures written { (HasFailed writer.old.failed writer.new.failed → ⊥) → WritesReport settled.now ended
         (W.contents writer.old.inner) (W.contents writer.new.inner) result }
     ensures within { result ≤ 1 }
     ensures broken { (writer.new.failed ≡ writer.old.failed) ⊎ (result ≡ 1) }
@@ -31,7 +31,7 @@ pub fn report<W: Write>(writer: &mut Counted<W>, settled: &Settled, ended: Ended
 
 /// Writes the lines of `report`, and nothing else.
 pub fn write_report<W: Write>(
-    writer: &mut Counted<W>,
+    writer: &mut Writing<W>,
     settled: &Settled,
     ended: Ended,
 ) -> Result<(), Fault>
@@ -48,8 +48,8 @@ pub fn write_report<W: Write>(
 }
 
 /// Writes the line of the fault by which there is no session, and answers 1.
-pub fn give_up<W: Write>(writer: &mut Counted<W>, fault: Fault) -> u8
-    ensures written { (HasFailed writer.old writer.new → ⊥)
+pub fn give_up<W: Write>(writer: &mut Writing<W>, fault: Fault) -> u8
+    ensures written { (HasFailed writer.old.failed writer.new.failed → ⊥)
         → WritesFault fault (W.contents writer.old.inner) (W.contents writer.new.inner) result }
     ensures status { result ≡ 1 }
 {
@@ -137,7 +137,7 @@ pub fn tells_fault(settled: &Settled, ended: Ended) -> bool
     settled.is_fault() || matches!(ended, Ended::Failed(_))
 }
 
-fn write_settled<W: Write>(writer: &mut Counted<W>, settled: &Settled) -> Result<(), Fault>
+fn write_settled<W: Write>(writer: &mut Writing<W>, settled: &Settled) -> Result<(), Fault>
     ensures bytes { OnOk result (Appends (W.contents writer.old.inner)
         (W.contents writer.new.inner) (settled_text settled.now)) }
     ensures part { OnErr result (AppendsPart (W.contents writer.old.inner)
@@ -156,7 +156,7 @@ fn write_settled<W: Write>(writer: &mut Counted<W>, settled: &Settled) -> Result
     }
 }
 
-fn write_ended<W: Write>(writer: &mut Counted<W>, ended: Ended) -> Result<(), Fault>
+fn write_ended<W: Write>(writer: &mut Writing<W>, ended: Ended) -> Result<(), Fault>
     ensures bytes { OnOk result (Appends (W.contents writer.old.inner)
         (W.contents writer.new.inner) (ended_text ended)) }
     ensures part { OnErr result (AppendsPart (W.contents writer.old.inner)

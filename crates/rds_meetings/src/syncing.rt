@@ -10,7 +10,7 @@ use crate::reports::{give_up, note_settled, report, tells_fault, write_report};
 use rds_dots::DotSet;
 use rds_files::{Disk, FilePath, LockFile, ReplicaFile, note};
 use rds_gaps::GapSet;
-use rds_keep::Counted;
+use rds_keep::Writing;
 use rds_names::Fault;
 use rds_session::{Side, Version};
 use std::io::{Read, Write};
@@ -30,11 +30,11 @@ pub fn sync_file<H: Disk + Net, W: Write>(
     path: &str,
     addr: &str,
     timeout: Option<Duration>,
-    writer: &mut Counted<W>,
+    writer: &mut Writing<W>,
 ) -> u8
 where
     H::File: LockFile,
-    ensures written { (HasFailed writer.old writer.new → ⊥)
+    ensures written { (HasFailed writer.old.failed writer.new.failed → ⊥)
         → WritesSync path.now (W.contents writer.old.inner) (W.contents writer.new.inner) result }
     ensures status { result ≤ 1 }
     ensures broken { (writer.new.failed ≡ writer.old.failed) ⊎ (result ≡ 1) }
@@ -84,11 +84,11 @@ pub fn serve_file<H: Disk + Net, W: Write>(
     addr: &str,
     sessions: u64,
     timeout: Option<Duration>,
-    writer: &mut Counted<W>,
+    writer: &mut Writing<W>,
 ) -> u8
 where
     H::File: LockFile,
-    ensures written { (HasFailed writer.old writer.new → ⊥)
+    ensures written { (HasFailed writer.old.failed writer.new.failed → ⊥)
         → WritesServing path.now sessions (W.contents writer.old.inner) (W.contents writer.new.inner) result }
     ensures status { result ≤ 1 }
     ensures broken { (writer.new.failed ≡ writer.old.failed) ⊎ (result ≡ 1) }
@@ -131,11 +131,11 @@ pub fn sync<H: Disk, S: DotSet, T: Read + Write + OpenStream + Drop, W: Write>(
     file: &ReplicaFile<'_, S>,
     stream: T,
     timeout: Option<Duration>,
-    writer: &mut Counted<W>,
+    writer: &mut Writing<W>,
 ) -> u8
 where
     H::File: LockFile,
-    ensures written { (HasFailed writer.old writer.new → ⊥)
+    ensures written { (HasFailed writer.old.failed writer.new.failed → ⊥)
         → WritesSession (Client version) (T.remaining stream) file.now
         (W.contents writer.old.inner) (W.contents writer.new.inner) result }
     ensures status { result ≤ 1 }
@@ -150,11 +150,11 @@ fn tell<H: Disk, S: DotSet, T: Read + OpenStream + Drop, W: Write>(
     rt: &H,
     file: &ReplicaFile<'_, S>,
     met: Met<T>,
-    writer: &mut Counted<W>,
+    writer: &mut Writing<W>,
 ) -> u8
 where
     H::File: LockFile,
-    ensures written { (HasFailed writer.old writer.new → ⊥) → WritesReport met.settled met.ended
+    ensures written { (HasFailed writer.old.failed writer.new.failed → ⊥) → WritesReport met.settled met.ended
         (W.contents writer.old.inner) (W.contents writer.new.inner) result }
     ensures status { result ≤ 1 }
     ensures broken { (writer.new.failed ≡ writer.old.failed) ⊎ (result ≡ 1) }
@@ -176,11 +176,11 @@ pub fn serve<H: Disk + Net, W: Write>(
     listener: &H::Listener,
     sessions: u64,
     timeout: Option<Duration>,
-    writer: &mut Counted<W>,
+    writer: &mut Writing<W>,
 ) -> u8
 where
     H::File: LockFile,
-    ensures written { (HasFailed writer.old writer.new → ⊥)
+    ensures written { (HasFailed writer.old.failed writer.new.failed → ⊥)
         → WritesSessionsOf Server path.old path.new sessions
         (W.contents writer.old.inner) (W.contents writer.new.inner) result }
     ensures status { result ≤ 1 }

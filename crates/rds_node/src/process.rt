@@ -1,10 +1,10 @@
 //! A run of the program as a process: its words, its standard input and output, and its exit status.
-ghost use Rattle.std.specs.Prelude.{◌≡◌, ◌≢◌, ◌≤◌, ◌⊎◌, [], Err, false, map, IfOk, IfErr};
+ghost use Rattle.std.specs.Prelude.{◌≡◌, ◌≢◌, ◌≤◌, ◌⊎◌, [], Err, map, IfOk, IfErr};
 ghost use Rattle.std.specs.Process.{exit_status};
 ghost use Rattle.rds_names.specs.declared.fault.Fault.TheVariants.{Memory, Usage};
 ghost use Rattle.rds_output.specs.Output.{Writes};
 ghost use Rattle.rds_lines.specs.Run.{RunsJoin};
-ghost use Rattle.rds_lines.specs.Streams.{Emits, stream_of};
+ghost use Rattle.rds_lines.specs.Streams.{Emits, reading_of, writing_of};
 ghost use Rattle.rds_words.specs.Commands.{join_words, sim_words};
 ghost use Rattle.rds_words.specs.Entered.{Names, mistakes_in, named_in};
 ghost use Rattle.rds_commands.specs.Told.{MayWriteNamed, RunsSim, TellsMistake};
@@ -13,7 +13,7 @@ use crate::output::Output;
 use crate::sites::Sites;
 use rds_commands::{RunSite, run};
 use rds_files::{Disk, LockFile};
-use rds_keep::Counted;
+use rds_keep::{Reading, Writing};
 use rds_names::Fault;
 use rds_output::write_fault;
 use std::convert::AsStr;
@@ -30,8 +30,8 @@ const SHOWN: usize = 4096;
 pub fn run_process(rt: &HostRuntime) -> ExitCode
     ensures status { exit_status result ≤ 3 }
 {
-    let mut reader = counted(rt.reader());
-    let mut writer = counted(Output::new(rt));
+    let mut reader = input(rt.reader());
+    let mut writer = Writing::new(Output::new(rt));
     match words(rt) {
         Ok(words) => run_words(rt, Ok(words.as_slice()), &Sites, &mut reader, &mut writer),
         Err(fault) => run_words::<_, _, _, String, _>(
@@ -50,29 +50,29 @@ pub fn run_words<H: Disk + Net, R: Read, W: Write, S: AsStr, T: RunSite<H>>(
     rt: &H,
     words: Result<&[S], Fault>,
     site: &T,
-    reader: &mut Counted<R>,
-    writer: &mut Counted<W>,
+    reader: &mut Reading<R>,
+    writer: &mut Writing<W>,
 ) -> ExitCode
 where
     H::File: LockFile,
     // There are no words.
     ensures unread { IfErr words.entry
-        (λ fault. Emits (Writes (Err fault)) (stream_of W.contents writer.old writer.new) (exit_status result)) }
+        (λ fault. Emits (Writes (Err fault)) (writing_of W.contents writer.old writer.new) (exit_status result)) }
 
     // The words of `join` and of `sim`.
     ensures join { IfOk words.entry (λ words. Names (map S.text words.now) join_words
-        → RunsJoin (stream_of R.remaining reader.old reader.new) (stream_of W.contents writer.old writer.new)
+        → RunsJoin (reading_of R.remaining reader.old reader.new) (writing_of W.contents writer.old writer.new)
         (exit_status result)) }
     ensures sim { IfOk words.entry (λ words. Names (map S.text words.now) sim_words
-        → RunsSim (stream_of R.remaining reader.old reader.new) (stream_of W.contents writer.old writer.new)
+        → RunsSim (reading_of R.remaining reader.old reader.new) (writing_of W.contents writer.old writer.new)
         (exit_status result)) }
 
     // Other words that name a task, and words that the command line doesn't have.
     ensures task { IfOk words.entry (λ words. mistakes_in (map S.text words.now) ≡ []
-        → Emits (MayWriteNamed (named_in (map S.text words.now)) (stream_of R.remaining reader.old reader.new))
-        (stream_of W.contents writer.old writer.new) (exit_status result)) }
+        → Emits (MayWriteNamed (named_in (map S.text words.now)) (reading_of R.remaining reader.old reader.new))
+        (writing_of W.contents writer.old writer.new) (exit_status result)) }
     ensures mistake { IfOk words.entry (λ words. mistakes_in (map S.text words.now) ≢ []
-        → TellsMistake (mistakes_in (map S.text words.now)) (stream_of W.contents writer.old writer.new)
+        → TellsMistake (mistakes_in (map S.text words.now)) (writing_of W.contents writer.old writer.new)
         (exit_status result)) }
 
     // Always.
@@ -92,11 +92,11 @@ fn code_of(status: u8) -> ExitCode
     ExitCode::from(status)
 }
 
-// The standard input or output: no call on it failed yet, and a loop makes at most so many reads.
-fn counted<T>(inner: T) -> Counted<T>
-    ensures { result ≡ record { inner = inner; failed = 0; budget = 2147483648; left = 2147483648; renamed = false } }
+// The standard input: no call on it failed yet, and a loop makes at most so many reads.
+fn input<R>(inner: R) -> Reading<R>
+    ensures { result ≡ record { inner = inner; failed = 0; budget = 2147483648; left = 2147483648 } }
 {
-    Counted::new(inner)
+    Reading::new(inner)
 }
 
 // The words that the program was called by; one that is no text is `Usage`.

@@ -6,7 +6,7 @@ use Rattle.hex.specs.Hex.{encode_lower}
 use Rattle.rds_names.specs.declared.fault.Fault.{Fault}
 use Rattle.rds_names.specs.declared.fault.Fault.TheVariants.{Usage}
 use Rattle.rds_names.specs.Fault.{number_of, name_of}
-use Rattle.rds_keep.specs.Counted.{CountedValue, HasFailed}
+use Rattle.rds_keep.specs.Counted.{HasFailed, WritingValue}
 
 -- the line of a fault
 abbrev pub fault_line : Fault → List ℕ
@@ -30,6 +30,6 @@ abbrev pub Writes : Result (List ℕ) Fault → Option (List ℕ) → Option (Li
 Writes answer before after status = Appends before after (output_of answer) × (status ≡ exit_status_of answer)
 
 -- the status that is due, or 1 where the output failed
-abbrev pub AnswersStatus : {T : Type 0} → CountedValue T → CountedValue T → ℕ → ℕ → Type 0
+abbrev pub AnswersStatus : {W : Type 0} → WritingValue W → WritingValue W → ℕ → ℕ → Type 0
 AnswersStatus old new due status =
-    ((new.failed ≡ old.failed) × (status ≡ due)) ⊎ (HasFailed old new × (status ≡ 1))
+    ((new.failed ≡ old.failed) × (status ≡ due)) ⊎ (HasFailed old.failed new.failed × (status ≡ 1))

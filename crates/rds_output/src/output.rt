@@ -9,15 +9,15 @@ ghost use Rattle.rds_output.specs.Output.{AnswersStatus, Writes, fault_line, fau
 
 use crate::digits::Digits;
 use crate::reply::Reply;
-use rds_keep::Counted;
+use rds_keep::Writing;
 use rds_names::Fault;
 use std::io::Write;
 
 /// Writes a fault's line, and answers its status: 2 for `Usage`, else 1. Where a call fails, a prefix of the line
 /// is written.
 #[tactic(auto, using(crate::proofs::Beginnings::front_written))]
-pub fn write_fault<W: Write>(writer: &mut Counted<W>, fault: Fault) -> u8
-    ensures written { (HasFailed writer.old writer.new → ⊥)
+pub fn write_fault<W: Write>(writer: &mut Writing<W>, fault: Fault) -> u8
+    ensures written { (HasFailed writer.old.failed writer.new.failed → ⊥)
         → Writes (Err fault) (W.contents writer.old.inner) (W.contents writer.new.inner) result }
     ensures part { AppendsFront (W.contents writer.old.inner) (W.contents writer.new.inner) (fault_line fault) }
     ensures status { AnswersStatus writer.old writer.new (fault_status fault) result }
@@ -27,8 +27,8 @@ pub fn write_fault<W: Write>(writer: &mut Counted<W>, fault: Fault) -> u8
 }
 
 /// Writes a reply's line, with 0, or a fault's line. Where a call fails, a prefix of the line is written.
-pub fn write_reply<W: Write>(writer: &mut Counted<W>, reply: Result<Reply, Fault>) -> u8
-    ensures written { (HasFailed writer.old writer.new → ⊥)
+pub fn write_reply<W: Write>(writer: &mut Writing<W>, reply: Result<Reply, Fault>) -> u8
+    ensures written { (HasFailed writer.old.failed writer.new.failed → ⊥)
         → WritesReply reply (W.contents writer.old.inner) (W.contents writer.new.inner) result }
     ensures part { AppendsFront (W.contents writer.old.inner) (W.contents writer.new.inner) (line_for reply) }
     ensures within { result ≤ 2 }
@@ -51,7 +51,7 @@ pub fn status_of(written: Result<(), Fault>, due: u8) -> u8
 }
 
 /// Writes a fault's line, piece by piece.
-pub fn write_fault_line<W: Write>(writer: &mut Counted<W>, fault: Fault) -> Result<(), Fault>
+pub fn write_fault_line<W: Write>(writer: &mut Writing<W>, fault: Fault) -> Result<(), Fault>
     ensures bytes { OnOk result (Appends (W.contents writer.old.inner)
         (W.contents writer.new.inner) (fault_line fault)) }
     ensures part { OnErr result (AppendsPart (W.contents writer.old.inner)

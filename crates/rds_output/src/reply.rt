@@ -8,7 +8,7 @@ ghost use Rattle.rds_output.specs.Reply.{edit_reply, is_refusal, named_dot, repl
 
 use crate::digits::Digits;
 use rds_dots::Dot;
-use rds_keep::Counted;
+use rds_keep::Writing;
 use rds_names::{Fault, Name, Roster};
 use rds_state::Edited;
 use std::io::Write;
@@ -68,7 +68,7 @@ impl Reply {
     }
 
     /// Writes its line, piece by piece.
-    pub fn write_to<W: Write>(&self, writer: &mut Counted<W>) -> Result<(), Fault>
+    pub fn write_to<W: Write>(&self, writer: &mut Writing<W>) -> Result<(), Fault>
         ensures bytes { OnOk result (Appends (W.contents writer.old.inner)
             (W.contents writer.new.inner) (reply_line self.now)) }
         ensures part { OnErr result (AppendsPart (W.contents writer.old.inner)
@@ -113,7 +113,7 @@ impl Reply {
 
 // Writes the line of an edit.
 fn write_edited<W: Write>(
-    writer: &mut Counted<W>,
+    writer: &mut Writing<W>,
     dot: Option<(Name, u64)>,
     killed: u64,
 ) -> Result<(), Fault>
@@ -143,7 +143,7 @@ fn write_edited<W: Write>(
 
 // Writes the line of a refused line of an input.
 fn write_refused_line<W: Write>(
-    writer: &mut Counted<W>,
+    writer: &mut Writing<W>,
     line: u64,
     fault: Fault,
 ) -> Result<(), Fault>

@@ -1,5 +1,5 @@
 //! Readers and writers that give and take little, and fail.
-use rds_keep::Counted;
+use rds_keep::Reading;
 use rds_names::Fault;
 use rds_rows::devices::{Drip, Manner};
 use rds_rows::words::{cut, first, number};
@@ -8,13 +8,13 @@ use std::io::{self, Write};
 
 /// `STEP TURNS END ..`: a reader of the bytes that gives at most so many a call, has such a budget, and `fails`
 /// or `ends` behind them; and what else the row says.
-pub fn reader_of<'a>(row: &'a str, bytes: &'a [u8]) -> Result<(Counted<Drip<'a>>, &'a str), Fault> {
+pub fn reader_of<'a>(row: &'a str, bytes: &'a [u8]) -> Result<(Reading<Drip<'a>>, &'a str), Fault> {
     let (step, row) = cut(row)?;
     let (turns, row) = cut(row)?;
     let (end, row) = first(row);
     let manner = manner_of(number(step)?, end, bytes.len() as u64)?;
     let drip = Drip::new(bytes, manner);
-    Ok((Counted::with_budget(drip, number(turns)?), row))
+    Ok((Reading::with_budget(drip, number(turns)?), row))
 }
 
 // Of the calls that give so many bytes each, the one behind a number of bytes fails, or none does.

@@ -5,7 +5,7 @@ use crate::calls::Calls;
 use files::Disk;
 use rds_files::{CreatedFile, LockedFile, ReplicaFile, is_there};
 use rds_gaps::GapSet;
-use rds_keep::{Counted, read_snapshot};
+use rds_keep::{Reading, read_snapshot};
 use rds_names::Fault;
 use rds_rows::told::{fault_text, said};
 use rds_rows::words::first;
@@ -67,7 +67,7 @@ fn made_to_last(disk: &Disk<'_>, path: &str) -> Result<&'static str, Fault> {
 
 // Writes the replica of the input.
 fn changed(disk: &Disk<'_>, action: &str, path: &str) -> Result<&'static str, Fault> {
-    let held = read_snapshot(disk.alloc(), &mut Counted::new(disk.bytes))?;
+    let held = read_snapshot(disk.alloc(), &mut Reading::new(disk.bytes))?;
     match action {
         "create" => created(disk, path, held.replica()),
         _ => replaced(disk, path, held.replica()),

@@ -1,7 +1,7 @@
 //! Lines that are answered by how long they are.
 use crate::devices::reader_of;
 use crate::runs::status_told;
-use rds_keep::Counted;
+use rds_keep::Writing;
 use rds_lines::{Answers, answer_lines};
 use rds_names::Fault;
 use rds_output::Reply;
@@ -29,7 +29,7 @@ impl Answers for Lengths {
 pub fn answer_lengths(alloc: Global, rest: &str, input: &[u8]) -> Result<String, Fault> {
     let (mut reader, _) = reader_of(rest, input)?;
     let mut written = Vec::new(alloc);
-    let mut writer = Counted::new(&mut written);
+    let mut writer = Writing::new(&mut written);
     let status = answer_lines(alloc, &mut Lengths, &mut reader, &mut writer);
     status_told(alloc, &written, status)
 }

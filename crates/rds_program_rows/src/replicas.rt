@@ -5,7 +5,7 @@ ghost use Rattle.rds_session.specs.Received.{HasChecked, delivery_of};
 use crate::sessions::side_of;
 use rds_files::{CreatedFile, LockedFile, ReplacedFile, ReplicaFile};
 use rds_gaps::GapSet;
-use rds_keep::{Counted, Kept};
+use rds_keep::{Kept, Reading, Writing};
 use rds_meetings::{Settlement, settle};
 use rds_names::Fault;
 use rds_rows::words::{bytes_of, cut};
@@ -95,8 +95,8 @@ fn exchanged_with(alloc: Global, side: Side, kept: &Kept<GapSet>, heard: &[u8]) 
     ensures { HasChecked kept.now (delivery_of result.received result.roster) }
 {
     let mut sent = Vec::new(alloc);
-    let mut reader = Counted::new(heard);
-    let mut writer = Counted::new(&mut sent);
+    let mut reader = Reading::new(heard);
+    let mut writer = Writing::new(&mut sent);
     exchange(alloc, side, kept, &mut reader, &mut writer)
 }
 

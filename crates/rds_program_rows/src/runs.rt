@@ -3,7 +3,7 @@ use crate::devices::{Narrow, reader_of, room_of};
 use crate::site::ToldSite;
 use crate::told::output_told;
 use rds_commands::run;
-use rds_keep::Counted;
+use rds_keep::{Reading, Writing};
 use rds_names::Fault;
 use rds_rows::told::said;
 use rds_rows::words::{cut, number};
@@ -68,13 +68,13 @@ fn run_words(rt: &HostRuntime, words: &[&str], input: &[u8]) -> Result<String, F
 /// What the program writes, and its status.
 pub fn run_on(rt: &HostRuntime, words: &[&str], input: &[u8]) -> (Vec<u8>, u8) {
     let mut written = Vec::new(rt.alloc());
-    let mut reader = Counted::new(input);
+    let mut reader = Reading::new(input);
     let status = run(
         rt,
         words,
         &ToldSite,
         &mut reader,
-        &mut Counted::new(&mut written),
+        &mut Writing::new(&mut written),
     );
     (written, status)
 }
@@ -110,21 +110,22 @@ pub fn run_reading(rt: &HostRuntime, rest: &str, input: &[u8]) -> Result<String,
         &words,
         &ToldSite,
         &mut reader,
-        &mut Counted::new(&mut written),
+        &mut Writing::new(&mut written),
     );
     let (failed, turns) = (reader.failed(), reader.budget());
     counted_told(rt.alloc(), &written, status, failed, turns)
 }
 
-/// `writes ROOM TURNS WORDS`: the same with a writer that takes so many bytes in all, and has such a budget.
+/// `writes ROOM TURNS WORDS`: the same with a writer that takes so many bytes in all, and a reader of such a budget.
 /// Answers also what was counted.
 pub fn run_writing(rt: &HostRuntime, rest: &str, input: &[u8]) -> Result<String, Fault> {
     let (room, turns, words) = room_of(rest)?;
     let words = named(rt.alloc(), words)?;
     let mut narrow = Narrow::new(rt.alloc(), room);
-    let mut writer = Counted::with_budget(&mut narrow, turns);
-    let status = run(rt, &words, &ToldSite, &mut Counted::new(input), &mut writer);
-    let (failed, turns) = (writer.failed(), writer.budget());
+    let mut reader = Reading::with_budget(input, turns);
+    let mut writer = Writing::new(&mut narrow);
+    let status = run(rt, &words, &ToldSite, &mut reader, &mut writer);
+    let (failed, turns) = (writer.failed(), reader.budget());
     counted_told(rt.alloc(), narrow.taken(), status, failed, turns)
 }
 
@@ -142,6 +143,6 @@ fn counted_told(
 
 /// `turns`: the usual budget of reads.
 pub fn usual_turns(alloc: Global) -> Result<String, Fault> {
-    let turns = Counted::new(0u8).budget();
+    let turns = Reading::new(0u8).budget();
     Ok(format!(in alloc; "{turns}")?)
 }

@@ -11,7 +11,7 @@ use named::{Named, repeated};
 use outcomes::Outcomes;
 use rds_answers::values_are_least;
 use rds_dots::DotSet;
-use rds_keep::{Counted, Kept, read_snapshot};
+use rds_keep::{Kept, Reading, read_snapshot};
 use rds_names::Fault;
 use rds_rows::Table;
 use rds_rows::told::said;
@@ -77,7 +77,7 @@ impl<S: DotSet> Sessions<S> {
     fn end(&self, alloc: Global, side: &str, kept: &str) -> Result<End<S>, Fault> {
         let side = side_of(side)?;
         let snapshot = self.named.bytes_of(alloc, kept)?;
-        let kept = read_snapshot(alloc, &mut Counted::new(snapshot.as_slice()))?;
+        let kept = read_snapshot(alloc, &mut Reading::new(snapshot.as_slice()))?;
         Ok(End { side, kept })
     }
 

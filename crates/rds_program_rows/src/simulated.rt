@@ -2,7 +2,7 @@
 use crate::input::Input;
 use crate::site::ToldSite;
 use rds_commands::run;
-use rds_keep::Counted;
+use rds_keep::{Reading, Writing};
 use rds_names::Fault;
 use rds_rows::told::said;
 use std::alloc::Global;
@@ -48,8 +48,8 @@ fn run_sim(rt: &HostRuntime, input: &[u8], written: &mut Vec<u8>) -> u8 {
         rt,
         &words,
         &ToldSite,
-        &mut Counted::new(input),
-        &mut Counted::new(written),
+        &mut Reading::new(input),
+        &mut Writing::new(written),
     )
 }
 

@@ -17,7 +17,7 @@ use lines::Lines;
 use output::Output;
 use rds_commands::run;
 use rds_files::{HolderNote, LockFile};
-use rds_keep::Counted;
+use rds_keep::{Reading, Writing};
 use rds_meetings::{Settled, meet, pair_files, pipe_file};
 use rds_names::Fault;
 use rds_rows::words::{cut, first, number, parted};
@@ -65,8 +65,8 @@ pub fn answer_piped(rt: &HostRuntime, row: &str, input: &[u8]) -> Result<String,
         &Wired { rt, wire: &wire },
         side_of(side)?,
         path,
-        &mut Counted::new(input),
-        &mut Counted::new(&mut output),
+        &mut Reading::new(input),
+        &mut Writing::new(&mut output),
     );
     let written = bytes_told(rt.alloc(), &output.written)?;
     let notes = wire.calls.notes();
@@ -201,14 +201,14 @@ fn run_on_wire<'a>(
     input: &'a [u8],
 ) -> (Vec<u8>, u8) {
     let mut output = Output::new(&wire.calls);
-    let mut lines = Counted::new(Lines::new(&wire.calls, input));
+    let mut lines = Reading::new(Lines::new(&wire.calls, input));
     let wired = Wired { rt, wire };
     let status = run(
         &wired,
         words,
         &ToldSite,
         &mut lines,
-        &mut Counted::new(&mut output),
+        &mut Writing::new(&mut output),
     );
     (output.written, status)
 }
@@ -218,8 +218,8 @@ fn run_on_wire<'a>(
 pub fn answer_wire(rt: &HostRuntime, fails: &str) -> Result<String, Fault> {
     let wire = Wire::new(rt.alloc(), fails);
     let mut output = Output::new(&wire.calls);
-    let mut writer = Counted::with_budget(&mut output, TURNS);
-    let status = pair_files(&Wired { rt, wire: &wire }, "a", "b", &mut writer);
+    let mut writer = Writing::new(&mut output);
+    let status = pair_files(&Wired { rt, wire: &wire }, "a", "b", TURNS, &mut writer);
     run_told(&wire.calls, &output.written, status)
 }
 

@@ -3,7 +3,7 @@ use Rattle.std.proofs.Common.{◌≡◌, ℕ, ◌+◌, ◌-◌, ◌<◌, ◌⊎�
 use Rattle.std.specs.Prelude.{◌^◌, OnErr, IfErr, Result, Ok, Err}
 use Rattle.std.specs.Io.KnownBytes.{Appends, Keeps}
 use Rattle.std.proofs.Math.Seq.{take-append-add}
-use Rattle.rds_keep.specs.Counted.{CountedValue, HasFailed}
+use Rattle.rds_keep.specs.Counted.{HasFailed}
 use Rattle.rds_keep.specs.Parts.{AppendsFront, AppendsPart}
 use Rattle.rds_names.specs.declared.fault.Fault.{Fault}
 use Rattle.rds_names.specs.declared.fault.Fault.TheVariants.{Memory, Device}
@@ -104,8 +104,8 @@ pub spoken_since : (Later Earlier : Type 0) (side : Side) (kept : ReplicaValue) 
 spoken_since Later Earlier side kept first now before after s since (heard, is_heard, sent, has, written, begun) =
     (heard, is_heard, sent, has, elim written [ inl all ↦ inl all | inr part ↦ inr (since part.0, part.1) ], begun)
 
-pub failed_since : {T : Type 0} (a b c : CountedValue T) → b.failed ≡ a.failed → HasFailed b c → HasFailed a c
-failed_since a b c same failed = subst (λ (n : ℕ). (n < c.failed) ⊎ (c.failed ≡ 2 ^ 64 - 1)) same failed
+pub failed_since : (a b c : ℕ) → b ≡ a → HasFailed b c → HasFailed a c
+failed_since a b c same failed = subst (λ (n : ℕ). (n < c) ⊎ (c ≡ 2 ^ 64 - 1)) same failed
 
 -- a session that hasn't begun has said nothing
 none_sent : (side : Side) (kept : ReplicaValue) (s : Standing) → HasStanding side kept Nothing s → HasSent side kept Nothing s []

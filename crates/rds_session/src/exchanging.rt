@@ -18,7 +18,7 @@ use crate::session::Session;
 use crate::step::{Ended, Input};
 use crate::talk::Side;
 use rds_dots::DotSet;
-use rds_keep::{Counted, Kept};
+use rds_keep::{Kept, Reading, Writing};
 use rds_names::{Fault, Roster};
 use rds_state::State;
 use std::alloc::Global;
@@ -91,7 +91,7 @@ fn say<S: DotSet, W: Write>(
     alloc: Global,
     session: &mut Session<'_, S>,
     input: Input<'_>,
-    writer: &mut Counted<W>,
+    writer: &mut Writing<W>,
 ) -> Result<Ended, Fault>
     ensures ended { IfOk result (λ e. e ≡ session.new.ended) }
     ensures known { OnOk result (IsNoDevice session.old.ended → IsNoDevice session.new.ended) }
@@ -104,7 +104,7 @@ fn say<S: DotSet, W: Write>(
         → HasStanding side kept heard session.old
         → (sent : List ℕ) × Continues side kept heard (came input.entry) session.new sent
         × AppendsPart (W.contents writer.old.inner) (W.contents writer.new.inner) sent) }
-    ensures fault { IfErr result (λ e. (e ≡ Device) × HasFailed writer.old writer.new) }
+    ensures fault { IfErr result (λ e. (e ≡ Device) × HasFailed writer.old.failed writer.new.failed) }
     ensures steady { OnOk result (writer.new.failed ≡ writer.old.failed) }
 {
     let output = session.step(alloc, input);
@@ -116,8 +116,8 @@ fn say<S: DotSet, W: Write>(
 fn turn<S: DotSet, R: Read, W: Write>(
     alloc: Global,
     session: &mut Session<'_, S>,
-    reader: &mut Counted<R>,
-    writer: &mut Counted<W>,
+    reader: &mut Reading<R>,
+    writer: &mut Writing<W>,
     piece: &mut [u8],
 ) -> Result<Ended, Fault>
     requires room { 0 < length piece.old }
@@ -135,9 +135,9 @@ fn turn<S: DotSet, R: Read, W: Write>(
         → Speaks side kept first (R.remaining reader.old.inner) session.old
         (Appends before (W.contents writer.old.inner))
         → Speaks side kept first (R.remaining reader.new.inner) session.new
-        (IsWrittenUnless (HasFailed writer.old writer.new) before (W.contents writer.new.inner))) }
+        (IsWrittenUnless (HasFailed writer.old.failed writer.new.failed) before (W.contents writer.new.inner))) }
     ensures fault { IfErr result
-        (λ e. (e ≡ Device) × (HasFailed reader.old reader.new ⊎ HasFailed writer.old writer.new)) }
+        (λ e. (e ≡ Device) × (HasFailed reader.old.failed reader.new.failed ⊎ HasFailed writer.old.failed writer.new.failed)) }
     ensures steady_reader { OnOk result (reader.new.failed ≡ reader.old.failed) }
     ensures steady_writer { OnOk result (writer.new.failed ≡ writer.old.failed) }
     ensures bound { ConsumesAtMost (R.remaining reader.old.inner) (R.remaining reader.new.inner)
@@ -157,8 +157,8 @@ fn turn<S: DotSet, R: Read, W: Write>(
 fn talk<S: DotSet, R: Read, W: Write>(
     alloc: Global,
     session: &mut Session<'_, S>,
-    reader: &mut Counted<R>,
-    writer: &mut Counted<W>,
+    reader: &mut Reading<R>,
+    writer: &mut Writing<W>,
 ) -> Result<Ended, Fault>
     ensures ended { IfOk result (λ e. (e ≡ session.new.ended) × IsOver e) }
     ensures known { OnOk result (IsNoDevice session.old.ended → IsNoDevice session.new.ended) }
@@ -168,10 +168,10 @@ fn talk<S: DotSet, R: Read, W: Write>(
         (Appends (W.contents writer.old.inner) (W.contents writer.new.inner))) }
     ensures part { OnErr result ((side : Side) (kept : ReplicaValue) → HasStanding side kept Nothing session.old
         → Speaks side kept (R.remaining reader.old.inner) (R.remaining reader.new.inner) session.new
-        (IsWrittenUnless (HasFailed writer.old writer.new) (W.contents writer.old.inner)
+        (IsWrittenUnless (HasFailed writer.old.failed writer.new.failed) (W.contents writer.old.inner)
         (W.contents writer.new.inner))) }
     ensures fault { IfErr result
-        (λ e. (e ≡ Device) × (HasFailed reader.old reader.new ⊎ HasFailed writer.old writer.new)) }
+        (λ e. (e ≡ Device) × (HasFailed reader.old.failed reader.new.failed ⊎ HasFailed writer.old.failed writer.new.failed)) }
     ensures steady_reader { OnOk result (reader.new.failed ≡ reader.old.failed) }
     ensures steady_writer { OnOk result (writer.new.failed ≡ writer.old.failed) }
     ensures bound { ConsumesAtMost (R.remaining reader.old.inner) (R.remaining reader.new.inner)
@@ -196,8 +196,8 @@ pub fn exchange<S: DotSet, R: Read, W: Write>(
     alloc: Global,
     side: Side,
     kept: &Kept<S>,
-    reader: &mut Counted<R>,
-    writer: &mut Counted<W>,
+    reader: &mut Reading<R>,
+    writer: &mut Writing<W>,
 ) -> Exchanged<S>
     ensures over { IsOver result.ended }
     ensures checked { HasChecked kept.now (delivery_of result.received result.roster) }
@@ -205,14 +205,15 @@ pub fn exchange<S: DotSet, R: Read, W: Write>(
     ensures alone { result.received ≡ None → result.roster ≡ None }
     ensures session { IsOfSession side kept.now (delivery_of result.received result.roster) result.ended }
     ensures heard { IsOfCalls side kept.now (R.remaining reader.old.inner) (R.remaining reader.new.inner)
-        (W.contents writer.old.inner) (W.contents writer.new.inner) (HasFailed writer.old writer.new)
+        (W.contents writer.old.inner) (W.contents writer.new.inner) (HasFailed writer.old.failed writer.new.failed)
         (delivery_of result.received result.roster) result.ended }
     ensures told { ((reader.new.failed ≡ reader.old.failed) × (writer.new.failed ≡ writer.old.failed))
         ⊎ (result.ended ≡ Failed Device) }
     ensures bound { ConsumesAtMost (R.remaining reader.old.inner) (R.remaining reader.new.inner)
         (most_heard (reader.old.budget - reader.new.left)) }
-    ensures device { result.ended ≡ Failed Device → HasFailed reader.old reader.new ⊎ HasFailed writer.old writer.new }
-    ensures exchange { (HasFailed reader.old reader.new → ⊥) → (HasFailed writer.old writer.new → ⊥)
+    ensures device { result.ended ≡ Failed Device
+        → HasFailed reader.old.failed reader.new.failed ⊎ HasFailed writer.old.failed writer.new.failed }
+    ensures exchange { (HasFailed reader.old.failed reader.new.failed → ⊥) → (HasFailed writer.old.failed writer.new.failed → ⊥)
         → IfSome (R.remaining reader.old.inner) (λ input. Exchanges side kept.now input
         (W.contents writer.old.inner) (W.contents writer.new.inner)
         (delivery_of result.received result.roster) result.ended) }

@@ -1,8 +1,8 @@
-//! Rows that call a counted place step by step.
+//! Rows that call a place step by step.
 use crate::devices::Sheet;
 use rds_codec::{decode_snapshot, encode_snapshot};
 use rds_dots::DotSet;
-use rds_keep::{Counted, keep_in, write_snapshot};
+use rds_keep::{Placing, Writing, keep_in, write_snapshot};
 use rds_names::Fault;
 use rds_rows::devices::Manner;
 use rds_rows::told::digits_of;
@@ -19,7 +19,7 @@ pub fn answer<S: DotSet>(alloc: Global, held: &[u8], rest: &str) -> Result<Strin
     let most = number(most)? as usize;
     let fails_at = number(call)?;
     let mut written = Vec::new(alloc);
-    let mut place = Counted::new(Sheet::new(&mut written, Manner { most, fails_at }));
+    let mut place = Placing::new(Sheet::new(&mut written, Manner { most, fails_at }));
     let answers = take_steps::<S>(alloc, held, &mut place, steps);
     let (failed, renamed) = (place.failed(), place.renamed());
     let digits = digits_of(alloc, &written)?;
@@ -30,7 +30,7 @@ pub fn answer<S: DotSet>(alloc: Global, held: &[u8], rest: &str) -> Result<Strin
 fn take_steps<S: DotSet>(
     alloc: Global,
     held: &[u8],
-    place: &mut Counted<Sheet<'_>>,
+    place: &mut Placing<Sheet<'_>>,
     steps: &str,
 ) -> Result<String, Fault> {
     let mut answers = String::new(alloc);
@@ -56,18 +56,18 @@ fn step_text(alloc: Global, answer: Result<usize, Fault>) -> Result<String, Faul
 fn take_step<S: DotSet>(
     alloc: Global,
     held: &[u8],
-    place: &mut Counted<Sheet<'_>>,
+    place: &mut Placing<Sheet<'_>>,
     step: &str,
 ) -> Result<usize, Fault> {
     let (name, text) = first(step);
     match name {
-        "snapshot" => return snapshot::<S>(alloc, held, place),
+        "snapshot" => return snapshot::<S>(alloc, held, place.writing()),
         "keep" => return keep::<S>(alloc, held, place),
-        "write" => return place.write(text.as_bytes()),
-        "all" => place.write_all(text.as_bytes())?,
-        "pieces" => place.write_pieces(&[text.as_bytes(), b"\n"])?,
-        "shown" => place.write_shown(text)?,
-        "mute" => place.write_shown(Mute)?,
+        "write" => return place.writing().write(text.as_bytes()),
+        "all" => place.writing().write_all(text.as_bytes())?,
+        "pieces" => place.writing().write_pieces(&[text.as_bytes(), b"\n"])?,
+        "shown" => place.writing().write_shown(text)?,
+        "mute" => place.writing().write_shown(Mute)?,
         "settle" => settle(place)?,
         _ => return Err(Fault::Usage),
     }
@@ -77,17 +77,17 @@ fn take_step<S: DotSet>(
 fn snapshot<S: DotSet>(
     alloc: Global,
     held: &[u8],
-    place: &mut Counted<Sheet<'_>>,
+    writer: &mut Writing<Sheet<'_>>,
 ) -> Result<usize, Fault> {
     let replica: Replica<S> = decode_snapshot(alloc, held)?;
-    let kept = write_snapshot(alloc, replica, place)?;
+    let kept = write_snapshot(alloc, replica, writer)?;
     Ok(encode_snapshot(alloc, kept.view_of())?.len())
 }
 
 fn keep<S: DotSet>(
     alloc: Global,
     held: &[u8],
-    place: &mut Counted<Sheet<'_>>,
+    place: &mut Placing<Sheet<'_>>,
 ) -> Result<usize, Fault> {
     if place.renamed() {
         return Err(Fault::OutOfTurn);
@@ -97,8 +97,8 @@ fn keep<S: DotSet>(
     Ok(encode_snapshot(alloc, &kept)?.len())
 }
 
-fn settle(place: &mut Counted<Sheet<'_>>) -> Result<(), Fault> {
-    place.sync()?;
+fn settle(place: &mut Placing<Sheet<'_>>) -> Result<(), Fault> {
+    place.writing().sync()?;
     place.rename()
 }
 

@@ -1,7 +1,7 @@
 //! Rows that read what is held, byte by byte.
 use rds_codec::encode_snapshot;
 use rds_dots::DotSet;
-use rds_keep::{Counted, Kept, read_snapshot};
+use rds_keep::{Kept, Reading, read_snapshot};
 use rds_names::Fault;
 use rds_rows::devices::{Drip, Manner};
 use rds_rows::told::{answer_text, digits_of};
@@ -14,9 +14,9 @@ pub fn answer<S: DotSet>(alloc: Global, held: &[u8], rest: &str) -> Result<Strin
     let (name, count) = cut(rest)?;
     let count = number(count)?;
     match name {
-        "whole" => read_whole::<S>(alloc, Counted::new(drip(held, count))),
-        "turns" => read_whole::<S>(alloc, Counted::with_budget(drip(held, 0), count)),
-        "front" => read_front(alloc, Counted::with_budget(drip(held, 0), count)),
+        "whole" => read_whole::<S>(alloc, Reading::new(drip(held, count))),
+        "turns" => read_whole::<S>(alloc, Reading::with_budget(drip(held, 0), count)),
+        "front" => read_front(alloc, Reading::with_budget(drip(held, 0), count)),
         _ => Err(Fault::Usage),
     }
 }
@@ -26,19 +26,19 @@ fn drip(held: &[u8], fails_at: u64) -> Drip<'_> {
 }
 
 /// What was read or why not, and what the reader counted.
-fn read_whole<S: DotSet>(alloc: Global, mut reader: Counted<Drip<'_>>) -> Result<String, Fault> {
+fn read_whole<S: DotSet>(alloc: Global, mut reader: Reading<Drip<'_>>) -> Result<String, Fault> {
     let read = answer_text(alloc, snapshot_in::<S>(alloc, &mut reader))?;
     let (failed, turns) = (reader.failed(), reader.budget());
     Ok(format!(in alloc; "{read}; {failed} failed, {turns} turns")?)
 }
 
-fn snapshot_in<S: DotSet>(alloc: Global, reader: &mut Counted<Drip<'_>>) -> Result<String, Fault> {
+fn snapshot_in<S: DotSet>(alloc: Global, reader: &mut Reading<Drip<'_>>) -> Result<String, Fault> {
     let kept: Kept<S> = read_snapshot(alloc, reader)?;
     let text = encode_snapshot(alloc, kept.view_of())?;
     digits_of(alloc, &text)
 }
 
-fn read_front(alloc: Global, mut reader: Counted<Drip<'_>>) -> Result<String, Fault> {
+fn read_front(alloc: Global, mut reader: Reading<Drip<'_>>) -> Result<String, Fault> {
     let mut byte = [0u8; 1];
     reader.read(&mut byte)?;
     let two = reader.read_front(alloc, 2)?;

@@ -1,7 +1,7 @@
 //! Rows on files: a snapshot with records behind it.
 use rds_codec::encode_snapshot;
 use rds_dots::DotSet;
-use rds_keep::{Counted, Layout, Refused, Stored, decode_stored, read_stored};
+use rds_keep::{Layout, Reading, Refused, Stored, decode_stored, read_stored};
 use rds_names::Fault;
 use rds_rows::devices::{Drip, Manner};
 use rds_rows::told::{digits_of, fault_text};
@@ -13,7 +13,7 @@ use std::alloc::Global;
 pub fn answer<S: DotSet>(alloc: Global, rest: &str) -> Result<String, Fault> {
     let bytes = bytes_of(alloc, rest)?;
     let decoded = told::<S>(alloc, decode_stored(alloc, &bytes))?;
-    let mut reader = Counted::new(Drip::new(&bytes, Manner::byte_a_call(0)));
+    let mut reader = Reading::new(Drip::new(&bytes, Manner::byte_a_call(0)));
     let read = told::<S>(alloc, read_stored(alloc, &mut reader))?;
     if decoded == read {
         return Ok(decoded);

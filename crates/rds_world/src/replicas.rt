@@ -7,7 +7,7 @@ ghost use Rattle.rds_names.specs.declared.fault.Fault.TheVariants.{Memory, TooLo
 ghost use Rattle.rds_world.specs.Stands.{IsNew, AreNew};
 
 use rds_dots::DotSet;
-use rds_keep::{Counted, Kept, write_snapshot};
+use rds_keep::{Kept, Writing, write_snapshot};
 use rds_names::{Fault, Roster};
 use rds_state::Replica;
 use rds_tree::Index;
@@ -89,7 +89,7 @@ pub fn keep<S: DotSet>(alloc: Global, replica: &Replica<S>) -> Result<Kept<S>, F
     ensures fault { IfErr result
         (λ fault. (fault ≡ Memory) ⊎ ((fault ≡ TooLong) × (LIMIT < length (snapshot_text replica.now)))) }
 {
-    let mut file = Counted::new(Vec::<u8>::new(alloc));
+    let mut file = Writing::new(Vec::<u8>::new(alloc));
     match write_snapshot(alloc, replica.copy(alloc)?, &mut file) {
         Ok(kept) => Ok(kept),
         Err(Fault::Device) => Err(Fault::Memory),

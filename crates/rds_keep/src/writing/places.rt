@@ -1,8 +1,10 @@
 //! A place that is written to, and the rename by which it takes the old text's place.
 ghost use Rattle.std.specs.Prelude.{◌≡◌, true, IfErr, OnOk, OnErr};
+ghost use Rattle.std.specs.Borrow.{Lends, sem};
 ghost use Rattle.std.specs.Io.KnownBytes.{Keeps};
 ghost use Rattle.rds_names.specs.declared.fault.Fault.TheVariants.{Device};
 ghost use Rattle.rds_keep.specs.Counted.{one_more};
+ghost use Rattle.rds_keep.specs.contracts.writing.Writing.{the_row as writing_row};
 
 use super::Writing;
 use crate::place::Place;
@@ -30,6 +32,8 @@ impl<P> Model for Placing<P> {
 }
 
 impl<P> Placing<P> {
+    ghost use Rattle.rds_keep.specs.contracts.writing.places.Placing.{the_row};
+
     /// Of a place through which no rename was made yet. Failed calls are counted from 0.
     pub fn new(inner: P) -> Placing<P>
         ensures { result ≡ record { writing = record { inner = inner; failed = 0 }; renamed = false } }
@@ -42,8 +46,9 @@ impl<P> Placing<P> {
 
     /// The writer by which the place is written to and synced.
     pub fn writing(&mut self) -> &mut Writing<P>
-        ensures at { result.old ≡ self.old.writing }
-        ensures back { self.new ≡ record self.old { writing = result.new } }
+        ensures value { result.now ≡ self.old.writing }
+        ensures* writes_back { sem 𝓛 (Lends (the_row P.row) (writing_row P.row) self.entry result
+            (λ w. record self.old { writing = w })) }
     {
         &mut self.writing
     }

@@ -8,7 +8,7 @@ ghost use Rattle.rds_meetings.specs.Forks.{AreForked, EndForked, fork_text};
 use crate::reports::note_forked;
 use crate::settling::Settlement;
 use rds_dots::DotSet;
-use rds_keep::Counted;
+use rds_keep::Writing;
 use rds_names::Fault;
 use rds_output::write_fault_line;
 use rds_state::Replica;
@@ -34,7 +34,7 @@ fn are_forked<S: DotSet>(one: &Replica<S>, other: &Replica<S>) -> bool
 }
 
 /// Writes the line of `Forked` where a fork is reported, else nothing.
-pub fn write_fork<W: Write>(writer: &mut Counted<W>, told: bool) -> Result<(), Fault>
+pub fn write_fork<W: Write>(writer: &mut Writing<W>, told: bool) -> Result<(), Fault>
     ensures bytes { OnOk result (Appends (W.contents writer.old.inner) (W.contents writer.new.inner) (fork_text told)) }
     ensures steady { OnOk result (writer.new.failed ≡ writer.old.failed) }
     ensures fault { IfErr result (λ e. e ≡ Device) }

@@ -3,7 +3,7 @@ use super::End;
 use super::named::Named;
 use super::showing::exchange_told;
 use rds_dots::DotSet;
-use rds_keep::Counted;
+use rds_keep::{Reading, Writing};
 use rds_names::Fault;
 use rds_rows::devices::{Drip, Manner, Shelf};
 use rds_rows::words::{first, number};
@@ -37,8 +37,8 @@ pub fn exchange_over<S: DotSet>(
     line: Line,
 ) -> Result<String, Fault> {
     let mut sent = Vec::new(alloc);
-    let mut reader = Counted::with_budget(Drip::new(heard, line.reads), line.turns);
-    let mut writer = Counted::new(Shelf::new(&mut sent, line.writes));
+    let mut reader = Reading::with_budget(Drip::new(heard, line.reads), line.turns);
+    let mut writer = Writing::new(Shelf::new(&mut sent, line.writes));
     let exchanged = exchange(alloc, end.side, &end.kept, &mut reader, &mut writer);
     let failed = (reader.failed(), writer.failed());
     drop(writer);

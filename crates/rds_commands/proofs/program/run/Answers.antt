@@ -1,6 +1,6 @@
 use Rattle.std.proofs.Common.{inl, refl, rules}
 use Rattle.rds_words.specs.declared.tasks.Task.TheVariants.{Join, Sim}
-use Rattle.rds_lines.specs.Streams.{stream_of}
+use Rattle.rds_lines.specs.Streams.{reading_of, writing_of}
 use Rattle.rds_lines.proofs.Running.{memory_begun, memory_written}
 use Rattle.rds_lines.proofs.Spent.{unread}
 use Rattle.rds_words.proofs.CommandWords.{is_memory}
@@ -27,7 +27,7 @@ returns-in-Err-clause-sim g c = λ names.
     let before = g.W.Write.contents c.args.writer.now.inner in
     let after = g.W.Write.contents c.write_unparsed.new.writer.inner in
     let memory = c.in-Err.ensures.sim names in
-    sim_unwritten (g.R.Read.remaining c.args.reader.now.inner) (stream_of g.R.Read.remaining c.args.reader.now c.args.reader.now) (stream_of g.W.Write.contents c.args.writer.now c.write_unparsed.new.writer) c.write_unparsed.result
+    sim_unwritten (g.R.Read.remaining c.args.reader.now.inner) (reading_of g.R.Read.remaining c.args.reader.now c.args.reader.now) (writing_of g.W.Write.contents c.args.writer.now c.write_unparsed.new.writer) c.write_unparsed.result
     refl refl (λ rose. rose refl) (memory_told c.in-Err.error before after c.write_unparsed.result c.args.writer.now c.write_unparsed.new.writer c.write_unparsed.ensures.written memory) (c.write_unparsed.ensures.part memory)
 
 pub returns-in-Err-clause-task : goal.returns-in-Err-clause-task
@@ -50,10 +50,10 @@ returns-in-Ok-Some-clause-join g c = λ names. c.run_task.ensures.join (task_is 
 
 pub returns-in-Ok-Some-clause-sim : goal.returns-in-Ok-Some-clause-sim
 returns-in-Ok-Some-clause-sim g c = λ names.
-    sim_runs (stream_of g.R.Read.remaining c.args.reader.now c.run_task.new.reader) (stream_of g.W.Write.contents c.args.writer.now c.run_task.new.writer) c.run_task.result
+    sim_runs (reading_of g.R.Read.remaining c.args.reader.now c.run_task.new.reader) (writing_of g.W.Write.contents c.args.writer.now c.run_task.new.writer) c.run_task.result
     (c.run_task.ensures.sim (task_is _ c.in-Ok-Some.task Sim c.in-Ok-Some.field-0-is (c.in-Ok-Some.ensures.sim names)))
 
 pub returns-in-Ok-Some-clause-task : goal.returns-in-Ok-Some-clause-task
 returns-in-Ok-Some-clause-task g c = λ none wrote.
-    task_written _ c.in-Ok-Some.task _ (stream_of g.R.Read.remaining c.args.reader.now c.run_task.new.reader) (g.W.Write.contents c.args.writer.now.inner) (g.W.Write.contents c.run_task.new.writer.inner) c.run_task.result c.in-Ok-Some.field-0-is c.in-Ok-Some.ensures.task
+    task_written _ c.in-Ok-Some.task _ (reading_of g.R.Read.remaining c.args.reader.now c.run_task.new.reader) (g.W.Write.contents c.args.writer.now.inner) (g.W.Write.contents c.run_task.new.writer.inner) c.run_task.result c.in-Ok-Some.field-0-is c.in-Ok-Some.ensures.task
     (c.run_task.ensures.written wrote)

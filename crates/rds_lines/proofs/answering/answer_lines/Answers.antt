@@ -29,17 +29,17 @@ returns-in-Ok-None-clause-answered g c = record {
 
 pub returns-in-Err-clause-answered : goal.returns-in-Err-clause-answered
 returns-in-Err-clause-answered g c = record {
-  answered = never_read (g.R.Read.remaining c.args.reader.now.inner) _ _ _ (failed_since c.args.reader.now c.lines.reader c.next_line.new.reader c.lines.invariant.read c.in-Err.ensures.fault.1);
+  answered = never_read (g.R.Read.remaining c.args.reader.now.inner) _ _ _ (failed_since c.args.reader.now.failed c.lines.reader.failed c.next_line.new.reader.failed c.lines.invariant.read c.in-Err.ensures.fault.1);
   unread = λ read wrote.
       told_cut g.A.Answers.may_answer (g.R.Read.remaining c.args.reader.now.inner) (bytes_untaken c.lines.ahead (g.R.Read.remaining c.lines.reader.inner)) (g.R.Read.remaining c.next_line.new.reader.inner)
       (g.W.Write.contents c.args.writer.now.inner) (g.W.Write.contents c.lines.writer.inner) (g.W.Write.contents c.write_fault.new.writer.inner) c.args.answers.now c.lines.answers c.lines.refused
       c.in-Err.fault c.write_fault.result c.lines.invariant.standing.told g.met.A.Answers.ends c.in-Err.ensures.piece c.in-Err.ensures.fault.0
-      (c.write_fault.ensures.written (λ failed. wrote (failed_since c.args.writer.now c.lines.writer c.write_fault.new.writer c.lines.invariant.wrote failed)));
+      (c.write_fault.ensures.written (λ failed. wrote (failed_since c.args.writer.now.failed c.lines.writer.failed c.write_fault.new.writer.failed c.lines.invariant.wrote failed)));
   part = λ wrote.
       told_cut_front g.A.Answers.may_answer (g.R.Read.remaining c.args.reader.now.inner) (bytes_untaken c.lines.ahead (g.R.Read.remaining c.lines.reader.inner)) (g.R.Read.remaining c.next_line.new.reader.inner)
       (g.W.Write.contents c.args.writer.now.inner) (g.W.Write.contents c.lines.writer.inner) (g.W.Write.contents c.write_fault.new.writer.inner) c.args.answers.now c.lines.answers c.lines.refused
       c.in-Err.fault _ c.lines.invariant.standing.told g.met.A.Answers.ends c.in-Err.ensures.piece c.in-Err.ensures.fault.0
-      (failed_since c.args.reader.now c.lines.reader c.next_line.new.reader c.lines.invariant.read c.in-Err.ensures.fault.1) c.write_fault.ensures.part;
+      (failed_since c.args.reader.now.failed c.lines.reader.failed c.next_line.new.reader.failed c.lines.invariant.read c.in-Err.ensures.fault.1) c.write_fault.ensures.part;
   bound = read_more _ (g.R.Read.remaining c.lines.reader.inner) _ _ c.lines.reader.left _ c.lines.invariant.bound c.next_line.ensures.bound c.lines.invariant.fewer c.next_line.ensures.left;
 }
 

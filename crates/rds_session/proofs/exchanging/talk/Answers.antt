@@ -27,7 +27,7 @@ returns-then-is_over-clause-speaks g c = c.turns.invariant.5
 pub returns-in_err-ended-2-clause-part : goal.returns-in_err-ended-2-clause-part
 returns-in_err-ended-2-clause-part g c =
     let p = err_from_is_err_and c.from_residual-in_err-ended-2.result c.from_residual-in_err-ended-2.ensures.1 in
-    rw p.1 (λ side kept is. spoken_since _ _ side kept _ _ _ _ _ (failed_since c.args.writer.now c.turns.writer c.turn.new.writer c.turns.invariant.4) (c.in_err-ended-2.ensures.part side kept _ _ (c.turns.invariant.5 side kept is)))
+    rw p.1 (λ side kept is. spoken_since _ _ side kept _ _ _ _ _ (failed_since c.args.writer.now.failed c.turns.writer.failed c.turn.new.writer.failed c.turns.invariant.4) (c.in_err-ended-2.ensures.part side kept _ _ (c.turns.invariant.5 side kept is)))
 
 pub returns-in_err-ended-2-clause-bound : goal.returns-in_err-ended-2-clause-bound
 returns-in_err-ended-2-clause-bound g c =
