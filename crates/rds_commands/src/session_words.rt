@@ -230,7 +230,8 @@ fn seconds_of(words: &SyncWords<'_>) -> Option<u64>
     Some(seconds)
 }
 
-/// One session of the replicas in two files, of at most so many turns. A path that ends in `.new` is `Usage`, and neither file is used.
+/// One session of the replicas in two files, of at most so many turns. A path that ends in `.new` is `Usage`, and
+/// neither file is used.
 pub fn run_pair<H: Disk + Net, W: Write>(
     rt: &H,
     first: &str,

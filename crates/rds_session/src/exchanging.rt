@@ -137,7 +137,8 @@ fn turn<S: DotSet, R: Read, W: Write>(
         → Speaks side kept first (R.remaining reader.new.inner) session.new
         (IsWrittenUnless (HasFailed writer.old.failed writer.new.failed) before (W.contents writer.new.inner))) }
     ensures fault { IfErr result
-        (λ e. (e ≡ Device) × (HasFailed reader.old.failed reader.new.failed ⊎ HasFailed writer.old.failed writer.new.failed)) }
+        (λ e. (e ≡ Device)
+        × (HasFailed reader.old.failed reader.new.failed ⊎ HasFailed writer.old.failed writer.new.failed)) }
     ensures steady_reader { OnOk result (reader.new.failed ≡ reader.old.failed) }
     ensures steady_writer { OnOk result (writer.new.failed ≡ writer.old.failed) }
     ensures bound { ConsumesAtMost (R.remaining reader.old.inner) (R.remaining reader.new.inner)
@@ -171,7 +172,8 @@ fn talk<S: DotSet, R: Read, W: Write>(
         (IsWrittenUnless (HasFailed writer.old.failed writer.new.failed) (W.contents writer.old.inner)
         (W.contents writer.new.inner))) }
     ensures fault { IfErr result
-        (λ e. (e ≡ Device) × (HasFailed reader.old.failed reader.new.failed ⊎ HasFailed writer.old.failed writer.new.failed)) }
+        (λ e. (e ≡ Device)
+        × (HasFailed reader.old.failed reader.new.failed ⊎ HasFailed writer.old.failed writer.new.failed)) }
     ensures steady_reader { OnOk result (reader.new.failed ≡ reader.old.failed) }
     ensures steady_writer { OnOk result (writer.new.failed ≡ writer.old.failed) }
     ensures bound { ConsumesAtMost (R.remaining reader.old.inner) (R.remaining reader.new.inner)
@@ -213,7 +215,8 @@ pub fn exchange<S: DotSet, R: Read, W: Write>(
         (most_heard (reader.old.budget - reader.new.left)) }
     ensures device { result.ended ≡ Failed Device
         → HasFailed reader.old.failed reader.new.failed ⊎ HasFailed writer.old.failed writer.new.failed }
-    ensures exchange { (HasFailed reader.old.failed reader.new.failed → ⊥) → (HasFailed writer.old.failed writer.new.failed → ⊥)
+    ensures exchange { (HasFailed reader.old.failed reader.new.failed → ⊥)
+        → (HasFailed writer.old.failed writer.new.failed → ⊥)
         → IfSome (R.remaining reader.old.inner) (λ input. Exchanges side kept.now input
         (W.contents writer.old.inner) (W.contents writer.new.inner)
         (delivery_of result.received result.roster) result.ended) }
