@@ -8,6 +8,7 @@ ghost use Rattle.rds_lines.specs.Lines.{lines_in};
 ghost use Rattle.rds_commands.specs.Edits.{delta_alone};
 ghost use Rattle.rds_commands.specs.Batch.{EditsFileBy, RefusesLines, RefusesLinesIn, WritesEditLines, WritesEdits};
 
+use crate::line_notes::note_lines;
 use crate::notes::{note_file, note_input};
 use rds_delta::{Digest, delta};
 use rds_files::{Disk, LockFile, LockedFile, ReplacedFile};
@@ -160,7 +161,11 @@ where
         return write_fault(writer, Fault::TooLong);
     }
     match edit_file_by(rt, path, input) {
-        Ok(done) => write_replies(writer, &done.answers),
+        Ok(done) => {
+            let status = write_replies(writer, &done.answers);
+            note_lines(rt, input, &done.answers, status);
+            status
+        }
         Err(fault) => {
             note_file(rt, path, fault);
             write_fault(writer, fault)

@@ -4,6 +4,7 @@ ghost use Rattle.rds_lines.specs.Streams.{Emits, writing_of};
 ghost use Rattle.rds_commands.specs.Calls.{LacksAnswer, SuitsForm, WritesCall, calls_site, form_of, writes_fault};
 
 use crate::batch::read_lines;
+use crate::line_notes::note_lines_of_site;
 use crate::listing::wanted_of;
 use crate::notes::{note_edit, note_several};
 use crate::offline::{read_both, read_text, status_for};
@@ -126,7 +127,9 @@ impl<'a> Call<'a> {
             }
             Errand::EditLines => {
                 let lines = read_lines(rt, reader)?;
-                site.call_site(rt, self.address, SiteRequest::Edits(&lines))
+                let told = site.call_site(rt, self.address, SiteRequest::Edits(&lines))?;
+                note_lines_of_site(rt, &lines, &told);
+                Ok(told)
             }
             Errand::Look(request) => site.call_site(rt, self.address, request),
             Errand::Raw { path, .. } => site.call_site(rt, self.address, SiteRequest::Value(path)),

@@ -75,7 +75,7 @@ fn note_response<H: Eprint>(rt: &H, fault: Fault) {
 }
 
 // Tells why the replica in a file can't take what it asked for.
-fn note_taker<H: Eprint>(rt: &H, path: &str, fault: Fault) {
+fn note_taker<H: Disk>(rt: &H, path: &str, fault: Fault) {
     match fault {
         Fault::WrongAsker => {
             let _ = eprintln!(rt;

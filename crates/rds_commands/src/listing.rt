@@ -18,8 +18,9 @@ ghost use Rattle.rds_commands.specs.Looks.{RefusesGet};
 ghost use Rattle.rds_files.specs.Files.{IsUnreadFile};
 ghost use Rattle.rds_names.specs.declared.fault.Fault.TheVariants.{Memory};
 
-use crate::notes::{note_conflicts, note_files, note_part, note_several};
+use crate::notes::{note_conflicts, note_files, note_part, note_part_alone, note_several};
 use crate::offline::status_for;
+use crate::place_notes::note_no_raw;
 use rds_dots::DotSet;
 use rds_files::{Disk, ReplicaFile};
 use rds_gaps::GapSet;
@@ -99,14 +100,17 @@ pub fn run_raw<H: Disk, W: Write>(
     ensures broken { (writer.new.failed ≡ writer.old.failed) ⊎ (result ≡ 1) }
 {
     match raw_file(rt, path, text, wanted) {
-        Ok(done) => match done.into_told() {
-            Raw::Nothing => FOUND,
-            Raw::Text(values) => status_of(writer.write_all(values.as_bytes()), 0),
-            Raw::Several => {
-                note_several(rt, text);
-                status_for(Fault::Usage)
+        Ok(done) => {
+            note_no_raw(rt, &done.file, path, text, &done.told);
+            match done.into_told() {
+                Raw::Nothing => FOUND,
+                Raw::Text(values) => status_of(writer.write_all(values.as_bytes()), 0),
+                Raw::Several => {
+                    note_several(rt, text);
+                    status_for(Fault::Usage)
+                }
             }
-        },
+        }
         Err(fault) => {
             note_part(rt, path, text, fault);
             status_for(fault)
@@ -171,7 +175,7 @@ pub fn run_dump<H: Disk, W: Write>(rt: &H, path: &str, text: &str, writer: &mut 
             write_lines(writer, &done.into_told(), 0)
         }
         Err(fault) => {
-            note_part(rt, path, text, fault);
+            note_part_alone(rt, path, text, fault);
             status_for(fault)
         }
     }

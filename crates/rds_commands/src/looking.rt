@@ -9,6 +9,7 @@ ghost use Rattle.rds_commands.specs.Looks.{DescribesFile, GetsFile, RefusesGet, 
 use crate::file_commands::FileAnswer;
 use crate::notes::{note_file, note_part};
 use crate::outcome::told;
+use crate::place_notes::note_no_value;
 use rds_files::{Disk, ReplicaFile};
 use rds_gaps::GapSet;
 use rds_keep::Writing;
@@ -59,6 +60,9 @@ pub fn run_get<H: Disk, W: Write>(rt: &H, path: &str, text: &str, writer: &mut W
     ensures broken { (writer.new.failed ≡ writer.old.failed) ⊎ (result ≡ 1) }
 {
     let done = get_file(rt, path, text);
+    if let Ok(done) = &done {
+        note_no_value(rt, &done.file, path, text, &done.answer);
+    }
     told(done, writer, |fault| note_part(rt, path, text, fault))
 }
 

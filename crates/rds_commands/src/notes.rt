@@ -1,6 +1,7 @@
 //! What is written on standard error of words and files that are refused, and of edits. Each thing is reported once:
 //! `rds_files` tells of a file that can't be used or isn't one of rds.
-use crate::causes::{bad_key, bad_name, stands_twice};
+use crate::address_notes::{note_no_address, note_no_file};
+use crate::causes::{AMOUNT, COUNTER_KEY, PATH, VALUE, bad_key, bad_name, stands_twice};
 use crate::visits::is_site;
 use rds_dots::DotSet;
 use rds_files::{Disk, ReplicaFile, is_beside};
@@ -16,13 +17,33 @@ use rds_words::{
 };
 use std::alloc::Global;
 
-/// What a path is.
-const PATH: &str = "1 to 8 keys with '/' between them, each of 1 to 64 bytes";
-
 /// Tells which file a command was refused for, and by which fault, unless that was reported of the file already.
-pub fn note_file<H: Eprint>(rt: &H, path: &str, fault: Fault) {
+pub fn note_file<H: Disk>(rt: &H, path: &str, fault: Fault) {
     match fault {
-        Fault::Device => note_address(rt, path),
+        Fault::Device => note_no_file(rt, path),
+        _ => note_refusal(rt, path, fault),
+    }
+}
+
+/// The same of a command that takes no node's address.
+pub fn note_file_alone<H: Eprint>(rt: &H, path: &str, fault: Fault) {
+    match fault {
+        Fault::Device => note_no_address(rt, path),
+        _ => note_refusal(rt, path, fault),
+    }
+}
+
+/// The same of a command that reads a second file.
+pub fn note_files<H: Eprint>(rt: &H, path: &str, other: &str, fault: Fault) {
+    note_file_alone(rt, path, fault);
+    if let Fault::Device = fault {
+        note_no_address(rt, other);
+    }
+}
+
+// Tells that a file's command was refused, unless that was reported already.
+fn note_refusal<H: Eprint>(rt: &H, path: &str, fault: Fault) {
+    match fault {
         Fault::Cut | Fault::Bad | Fault::Extra => (),
         Fault::Unsure => {
             let _ = eprintln!(rt;
@@ -32,21 +53,6 @@ pub fn note_file<H: Eprint>(rt: &H, path: &str, fault: Fault) {
         _ => {
             let _ = eprintln!(rt; "{path}: {fault}");
         }
-    }
-}
-
-/// The same of a command that reads a second file.
-pub fn note_files<H: Eprint>(rt: &H, path: &str, other: &str, fault: Fault) {
-    note_file(rt, path, fault);
-    if let Fault::Device = fault {
-        note_address(rt, other);
-    }
-}
-
-// Tells that a file is to stand where a node's address does.
-fn note_address<H: Eprint>(rt: &H, path: &str) {
-    if is_site(path) {
-        let _ = eprintln!(rt; "{path}: this command takes no node's address, only a file");
     }
 }
 
@@ -68,7 +74,7 @@ pub fn note_init<H: Eprint>(rt: &H, words: &InitWords<'_>, fault: Fault) {
             let _ = eprintln!(rt; "OWN '{own}' is none of NAMES");
         }
         Fault::Unsure => note_made(rt, words.file),
-        _ => note_file(rt, words.file, fault),
+        _ => note_file_alone(rt, words.file, fault),
     }
 }
 
@@ -80,12 +86,15 @@ fn note_made<H: Eprint>(rt: &H, path: &str) {
 }
 
 /// Tells why `init` with `--from` was refused.
-pub fn note_init_from<H: Eprint>(rt: &H, words: &InitFromWords<'_>, fault: Fault) {
+pub fn note_init_from<H: Disk>(rt: &H, words: &InitFromWords<'_>, fault: Fault) {
     let own = words.own;
     let from = words.from;
     match fault {
         Fault::Usage => (),
-        Fault::BadName => note_name(rt, own),
+        Fault::BadName => {
+            note_name(rt, own);
+            note_swapped(rt, words);
+        }
         Fault::NoSuch => {
             let _ = eprintln!(rt; "'{own}' is no name of the group: 'grow {from} {own}' adds it");
         }
@@ -95,12 +104,24 @@ pub fn note_init_from<H: Eprint>(rt: &H, words: &InitFromWords<'_>, fault: Fault
             );
         }
         Fault::Unsure => note_made(rt, words.file),
-        _ => note_file(rt, words.file, fault),
+        Fault::Device => {
+            note_no_address(rt, words.file);
+            note_no_file(rt, from);
+        }
+        _ => note_file_alone(rt, words.file, fault),
+    }
+}
+
+// Tells that the file and its name may stand in each other's place, where both look so.
+fn note_swapped<H: Eprint>(rt: &H, words: &InitFromWords<'_>) {
+    let (file, own, from) = (words.file, words.own, words.from);
+    if Name::new(file).is_ok() && (own.contains('.') || own.contains('/')) {
+        let _ = eprintln!(rt; "did you mean 'init {own} {file} --from {from}'?");
     }
 }
 
 /// The same where a site was asked. That what it told is no file wasn't reported yet.
-pub fn note_init_from_site<H: Eprint>(rt: &H, words: &InitFromWords<'_>, fault: Fault) {
+pub fn note_init_from_site<H: Disk>(rt: &H, words: &InitFromWords<'_>, fault: Fault) {
     let own = words.own;
     let from = words.from;
     match fault {
@@ -177,7 +198,7 @@ fn note_key<H: Eprint>(rt: &H, key: &str, what: &str) {
 }
 
 /// Tells why what is asked of a part of a document was refused: its path is quoted, where that is why.
-pub fn note_part<H: Eprint>(rt: &H, file: &str, path: &str, fault: Fault) {
+pub fn note_part<H: Disk>(rt: &H, file: &str, path: &str, fault: Fault) {
     match fault {
         Fault::BadPath => {
             let _ = eprintln!(rt; "'{path}' isn't {PATH}");
@@ -190,8 +211,16 @@ pub fn note_part<H: Eprint>(rt: &H, file: &str, path: &str, fault: Fault) {
     }
 }
 
+/// The same of a command that takes no node's address.
+pub fn note_part_alone<H: Disk>(rt: &H, file: &str, path: &str, fault: Fault) {
+    match fault {
+        Fault::Device => note_no_address(rt, file),
+        _ => note_part(rt, file, path, fault),
+    }
+}
+
 /// Tells why an edit was refused: the word that is why is quoted.
-pub fn note_edit<H: Eprint>(rt: &H, file: &str, words: &EditWords<'_>, fault: Fault) {
+pub fn note_edit<H: Disk>(rt: &H, file: &str, words: &EditWords<'_>, fault: Fault) {
     match words {
         EditWords::Set { path, value }
         | EditWords::Add { path, value }
@@ -205,7 +234,7 @@ pub fn note_edit<H: Eprint>(rt: &H, file: &str, words: &EditWords<'_>, fault: Fa
 }
 
 /// The same of an edit that is made only where it changes something, which a site doesn't do.
-pub fn note_edit_if_changed<H: Eprint>(rt: &H, file: &str, words: &EditWords<'_>, fault: Fault) {
+pub fn note_edit_if_changed<H: Disk>(rt: &H, file: &str, words: &EditWords<'_>, fault: Fault) {
     match fault {
         Fault::Device if is_site(file) => {
             let _ = eprintln!(rt; "{file}: --if-changed is for files alone");
@@ -215,7 +244,7 @@ pub fn note_edit_if_changed<H: Eprint>(rt: &H, file: &str, words: &EditWords<'_>
 }
 
 // The same of a clear. An empty path may be a variable that isn't set, so it isn't the whole document's.
-fn note_clear<H: Eprint>(rt: &H, file: &str, path: &str, fault: Fault) {
+fn note_clear<H: Disk>(rt: &H, file: &str, path: &str, fault: Fault) {
     note_part(rt, file, path, fault);
     if path.is_empty() && matches!(fault, Fault::BadPath) {
         let _ = eprintln!(rt; "'clear {file} --all' empties the whole document");
@@ -223,15 +252,13 @@ fn note_clear<H: Eprint>(rt: &H, file: &str, path: &str, fault: Fault) {
 }
 
 // The same of an entry. Where its value is no JSON, that may be text without quotes.
-fn note_entry<H: Eprint>(rt: &H, file: &str, path: &str, value: ValueWord<'_>, fault: Fault) {
+fn note_entry<H: Disk>(rt: &H, file: &str, path: &str, value: ValueWord<'_>, fault: Fault) {
     match (fault, value) {
         (Fault::BadLine, ValueWord::Json(value)) => {
             let _ = eprintln!(rt; "'{value}' is no JSON: did you mean '\"{value}\"', or --text?");
         }
         (Fault::BadScalar, ValueWord::Json(value)) => {
-            let _ = eprintln!(rt;
-                "'{value}' is no value: whole numbers of 64 bits, texts of at most 1024 bytes, true, false and null are"
-            );
+            let _ = eprintln!(rt; "'{value}' {VALUE}");
         }
         (Fault::BadScalar, ValueWord::Text(value)) => {
             let length = value.len();
@@ -242,17 +269,13 @@ fn note_entry<H: Eprint>(rt: &H, file: &str, path: &str, value: ValueWord<'_>, f
 }
 
 // The same of a counter's change.
-fn note_count<H: Eprint>(rt: &H, file: &str, key: &str, by: &str, fault: Fault) {
+fn note_count<H: Disk>(rt: &H, file: &str, key: &str, by: &str, fault: Fault) {
     match fault {
         Fault::BadKey => {
-            let _ = eprintln!(rt;
-                "'{key}' is no counter's key: counters stand at the root, so it has 1 to 64 bytes and no '/'"
-            );
+            let _ = eprintln!(rt; "'{key}' {COUNTER_KEY}");
         }
         Fault::Usage => {
-            let _ = eprintln!(rt;
-                "BY '{by}' is no whole number of 64 bits, 0 or more: inc raises by it, and dec lowers"
-            );
+            let _ = eprintln!(rt; "BY '{by}' {AMOUNT}");
         }
         _ => note_file(rt, file, fault),
     }
@@ -314,15 +337,6 @@ pub fn note_serve<H: Eprint>(rt: &H, words: &ServeWords<'_>) {
     }
 }
 
-/// Tells that an address has no port, as where a file's path stands in its place.
-pub fn note_no_port<H: Eprint>(rt: &H, addr: &str) {
-    if !addr.contains(':') {
-        let _ = eprintln!(rt;
-            "'{addr}' is no HOST:PORT, as 127.0.0.1:4000 is; two files meet by 'pair'"
-        );
-    }
-}
-
 /// Tells what it means that a site has something of the file's own that the file lacks.
 pub fn note_visit<H: Eprint>(rt: &H, path: &str, fault: Option<Fault>) {
     if let Some(Fault::OwnAhead(_)) = fault {
@@ -355,11 +369,6 @@ fn note_timeout<H: Eprint>(rt: &H, path: &str, timeout: &str) {
     } else {
         note_beside(rt, path);
     }
-}
-
-/// Tells that a node's address is to stand where another text does.
-pub fn note_no_site<H: Eprint>(rt: &H, text: &str) {
-    let _ = eprintln!(rt; "'{text}' is no node, as http://127.0.0.1:7780 is");
 }
 
 /// Tells that a path is that of a file beside another, where it is.

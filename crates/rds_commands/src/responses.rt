@@ -60,6 +60,28 @@ fn fault_in(line: &[u8]) -> Option<(&str, &str)> {
     Some((number, name))
 }
 
+/// Which line of an input a line of JSON refuses, and by which fault.
+pub fn refused_line(answer: &str) -> Option<(u64, Fault)> {
+    let (number, rest) = answer.strip_prefix(REFUSAL)?.split_once(",\"name\":\"")?;
+    let (_, line) = rest.split_once("\",\"line\":")?;
+    let line = line.strip_suffix('}')?.parse::<u64>().ok()?;
+    Some((line, fault_of_line(number)?))
+}
+
+// The fault of this number, where lines are refused by it.
+fn fault_of_line(number: &str) -> Option<Fault> {
+    match number {
+        "1" => Some(Fault::Memory),
+        "3" => Some(Fault::BadKey),
+        "4" => Some(Fault::BadPath),
+        "5" => Some(Fault::BadScalar),
+        "7" => Some(Fault::SeqFull),
+        "8" => Some(Fault::CounterFull),
+        "25" => Some(Fault::BadLine),
+        _ => None,
+    }
+}
+
 /// Whether a line of JSON among these is a refusal.
 pub fn has_refusal(lines: &[u8]) -> bool {
     let Ok(text) = str::from_utf8(lines) else {

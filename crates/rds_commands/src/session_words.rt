@@ -20,7 +20,8 @@ ghost use Rattle.rds_session.specs.declared.talk.Side.TheVariants.{Client, Serve
 ghost use Rattle.rds_session.specs.declared.version.Version.TheVariants.{Five};
 ghost use Rattle.rds_output.specs.Output.{Writes};
 
-use crate::notes::{note_beside, note_no_port, note_serve, note_sync, note_visit};
+use crate::address_notes::{note_no_peer, note_node_port};
+use crate::notes::{note_beside, note_serve, note_sync, note_visit};
 use crate::offline::status_for;
 use crate::site::RunSite;
 use crate::visits::{is_site, write_visit};
@@ -175,8 +176,10 @@ where
 {
     match seconds_of(&words) {
         Some(seconds) => {
-            note_no_port(rt, words.addr);
-            sync_file(rt, words.file, words.addr, timeout_of(seconds), writer)
+            note_no_peer(rt, words.addr);
+            let status = sync_file(rt, words.file, words.addr, timeout_of(seconds), writer);
+            note_node_port(rt, words.addr, status);
+            status
         }
         None => {
             note_sync(rt, &words);

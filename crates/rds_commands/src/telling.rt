@@ -18,10 +18,11 @@ use crate::file_commands::{
     compact_file, edit_file, edit_if_changed, grow_file, init_file, show_file,
 };
 use crate::notes::{
-    note_cleared, note_edit, note_edit_if_changed, note_file, note_grow, note_grown, note_init,
-    note_part, note_unwritten,
+    note_cleared, note_edit, note_edit_if_changed, note_file_alone, note_grow, note_grown,
+    note_init, note_part, note_unwritten,
 };
 use crate::outcome::told;
+use crate::place_notes::note_no_map;
 use crate::site::{RunSite, SiteRequest};
 use crate::visits::is_site;
 use rds_files::{Disk, LockFile};
@@ -121,7 +122,7 @@ where
     ensures broken { (writer.new.failed ≡ writer.old.failed) ⊎ (result ≡ 1) }
 {
     let done = compact_file(rt, path);
-    told(done, writer, |fault| note_file(rt, path, fault))
+    told(done, writer, |fault| note_file_alone(rt, path, fault))
 }
 
 /// Edits the replica in a file as `edit_file` does, and writes the answer.
@@ -184,6 +185,9 @@ pub fn run_show<H: Disk, W: Write>(
     ensures broken { (writer.new.failed ≡ writer.old.failed) ⊎ (result ≡ 1) }
 {
     let done = show_file(rt, path, text, layout);
+    if let Ok(done) = &done {
+        note_no_map(rt, &done.file, path, text, &done.answer);
+    }
     told(done, writer, |fault| note_part(rt, path, text, fault))
 }
 

@@ -53,16 +53,75 @@ fn has_amounts(command: &str) -> bool {
     matches!(command, "inc" | "dec" | "serve" | "sync" | "run")
 }
 
-/// Tells what a number of the command is, where one below 0 was given.
-pub fn note_below_zero<H: Eprint, S: AsStr>(rt: &H, words: &[S], error: &Error) {
-    if let ErrorKind::UnknownArgument = error.kind() {
-        for word in words {
-            if is_below_zero(word.as_str()) {
-                note_amount(rt, command_in(words), word.as_str());
-                return;
-            }
+/// Tells what the library's text doesn't say of a mistake in words.
+pub fn note_mistake<H: Eprint, S: AsStr>(rt: &H, words: &[S], error: &Error) {
+    match error.kind() {
+        ErrorKind::UnknownArgument => {
+            note_below_zero(rt, words);
+            note_one_more(rt, words);
+        }
+        ErrorKind::MissingRequiredArgument => note_lacking(rt, words),
+        _ => (),
+    }
+}
+
+// Tells what a number of the command is, where one below 0 was given.
+fn note_below_zero<H: Eprint, S: AsStr>(rt: &H, words: &[S]) {
+    for word in words {
+        if is_below_zero(word.as_str()) {
+            note_amount(rt, command_in(words), word.as_str());
+            return;
         }
     }
+}
+
+// Tells that a file is one too many for `merge`.
+fn note_one_more<H: Eprint, S: AsStr>(rt: &H, words: &[S]) {
+    if command_in(words) == "merge" && !has_option(words) {
+        if let Some(word) = words.get(4) {
+            let word = word.as_str();
+            let _ = eprintln!(rt; "merge takes one FROM a call, and '{word}' is one more");
+        }
+    }
+}
+
+// Whether one of these words is an option.
+fn has_option<S: AsStr>(words: &[S]) -> bool {
+    for word in words {
+        if word.as_str().starts_with('-') {
+            return true;
+        }
+    }
+    false
+}
+
+// Tells what `init` lacks with `--from`, of which the library knows only what it lacks without.
+fn note_lacking<H: Eprint, S: AsStr>(rt: &H, words: &[S]) {
+    if command_in(words) == "init" {
+        let _ = match words_beside_from(words) {
+            Some(1) => eprintln!(rt;
+                "OWN lacks: with --from, init takes FILE and OWN, and no GROUP"
+            ),
+            Some(_) => eprintln!(rt;
+                "FILE and OWN lack: with --from, init takes both, and no GROUP"
+            ),
+            None => Ok(()),
+        };
+    }
+}
+
+// How many words of a command stand beside `--from` and its value, where that is given.
+fn words_beside_from<S: AsStr>(words: &[S]) -> Option<usize> {
+    let count = words.len().saturating_sub(2);
+    for word in words {
+        if word.as_str() == "--from" {
+            return Some(count.saturating_sub(2));
+        }
+        if word.as_str().starts_with("--from=") {
+            return Some(count.saturating_sub(1));
+        }
+    }
+    None
 }
 
 fn note_amount<H: Eprint>(rt: &H, command: &str, word: &str) {

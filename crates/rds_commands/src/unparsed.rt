@@ -8,7 +8,7 @@ ghost use Rattle.rds_keep.specs.Parts.{AppendsFront, BytesGrow};
 ghost use Rattle.rds_output.specs.Output.{AnswersStatus, fault_line};
 ghost use Rattle.rds_commands.specs.Unparsed.{AppendsBehind, WritesUnparsed, unparsed_status};
 
-use crate::tips::{command_in, note_below_zero, shown_text};
+use crate::tips::{command_in, note_mistake, shown_text};
 use clap::Error;
 use clap::error::ErrorKind;
 use rds_files::Disk;
@@ -41,7 +41,7 @@ pub fn write_unparsed<H: Disk, W: Write, S: AsStr>(
             0,
         ),
         _ => {
-            note_below_zero(rt, words, error);
+            note_mistake(rt, words, error);
             status_of(write_usage(rt.alloc(), command_in(words), writer, error), 2)
         }
     }

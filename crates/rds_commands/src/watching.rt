@@ -3,7 +3,8 @@ ghost use Rattle.std.specs.Prelude.{◌≡◌, ◌≤◌, ◌⊎◌};
 ghost use Rattle.rds_lines.specs.Streams.{Emits, writing_of};
 ghost use Rattle.rds_commands.specs.Told.{EndsWatch, WritesWatch};
 
-use crate::notes::{note_no_site, note_part};
+use crate::address_notes::note_no_site;
+use crate::notes::note_part;
 use crate::site::RunSite;
 use crate::visits::is_site;
 use rds_files::Disk;

@@ -18,6 +18,6 @@ pub const PAGE: &str = page!();
 
 /// The page's `Content-Security-Policy`. It lets the page's own script and style in by their SHA-256, and no others.
 pub const POLICY: &str = "default-src 'none'; connect-src 'self'; img-src data:; \
-    script-src 'sha256-MaNsXP909B63oMgffUVe0I3u7LxGfrnNjNvSLi4VEG8='; \
+    script-src 'sha256-1qGNgHpCzZgjiXazss4Aqc3zY3rSipP+xQ5ibK9ihZE='; \
     style-src 'sha256-qufR6nFe+B7LoLFfKnt0rKbFlTOrU1Dryqi1dtajRcw='; \
     form-action 'none'; frame-ancestors 'none'; base-uri 'none'";

@@ -41,6 +41,8 @@ macro_rules! with_markup {
 <p id="apart" class="notice" hidden></p>
 <p id="behind" class="notice" hidden>The node's file is older than what its replica has sent, as a backup is.
 It takes no edits: docs/FAULTS.md, 'Back to a backup', tells how to go on.</p>
+<p id="unwritable" class="notice" hidden>The node can't write its file, as where its disk is full.
+It takes no edits until it can.</p>
 <form id="login" hidden>
 <h2>This node asks for a token</h2>
 <p><input id="token" type="password" aria-label="Token" placeholder="Token" autocomplete="current-password" required>

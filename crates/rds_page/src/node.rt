@@ -346,7 +346,8 @@ async function loadCounts() {
   const text = await ask("/metrics");
   const countOf = name => Number(text.match(new RegExp(`^rds_${name} (\\d+)$`, "m"))?.[1] ?? 0);
   counts = { live: countOf("live_entries"), peers: countOf("peers"), met: countOf("peers_met") };
-  const isAsTold = status && counts.met === status.peers.met && countOf("behind") === Number(status.behind);
+  const isAsTold = status && counts.met === status.peers.met && countOf("behind") === Number(status.behind)
+    && countOf("unwritable") === Number(status.unwritable);
   if (!isAsTold || counts.met < counts.peers) overview.due();
   const forked = countOf("peers_forked");
   at("forked").hidden = forked === 0;
@@ -372,6 +373,7 @@ function drawPeers() {
   at("apart").hidden = apart.length === 0;
   at("apart").textContent = apart.join(" · ");
   at("behind").hidden = !status.behind;
+  at("unwritable").hidden = !status.unwritable;
 }
 
 // ---- what has changed
@@ -449,7 +451,9 @@ async function showNextRival() {
 function askForToken() {
   if (!at("login").hidden) return;
   at("login").hidden = false;
-  for (const id of ["tree", "tools", "keys", "rivals", "forked", "apart", "behind", "copy"]) at(id).hidden = true;
+  for (const id of ["tree", "tools", "keys", "rivals", "forked", "apart", "behind", "unwritable", "copy"]) {
+    at(id).hidden = true;
+  }
   tellLink("", "Waiting for a token");
   lose();
   at("token").focus();
