@@ -193,7 +193,7 @@ def try_tokens(asked, folder):
     with running(node):
         place = at(node.port)
         for words, rest in (["get"], ["x"]), (["set"], ["x", "1"]), *JOINS:
-            comes_to(node, words, place, rest, 1, b"fault 23: PeerEnded\n", "refused: 401: the token of this node is due\n")
+            comes_to(node, words, place, rest, 1, b"fault 23: PeerEnded\n", "refused: 401: the token is due: none or a wrong one was given\n")
             comes_to(node, words, place, rest, 1, b"fault 23: PeerEnded\n", "refused: 401", token="wrong")
             comes_to(node, words, place, rest, 2, b"fault 27: Usage\n", "short holds no token", token="short")
             comes_to(node, words, place, rest, 1, b"fault 24: Device\n", "cannot read none", token="none")

@@ -347,6 +347,10 @@ def is_left_by(node, sent, there):
     ends = "a.rds: what it held is in a.rds.left\nfault 24: Device\n"
     is_due = status == 1 and said.endswith(ends) and (node.folder / "a.rds").read_bytes() == there
     want(is_due, f"where its file was written over a node ends with {status}: {said}")
+    node.begin()
+    status, said = node.child.wait(LIMIT), node.said()
+    is_due = status == 1 and said.startswith("a.rds.left: is what a node held") and said.endswith("fault 24: Device\n")
+    want(is_due, f"beside a.rds.left a node ends with {status}: {said}")
     (node.folder / "a.rds.left").rename(node.folder / "a.rds")
     found = found_in(node.shown())
     want(sent.done <= found <= sent.done | {number}, f"of {sorted(sent.done)} a.rds.left has {sorted(found)}")

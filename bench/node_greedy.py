@@ -82,9 +82,33 @@ def judge(node, chance, clients, seconds):
     return said
 
 
+# So many ask for all at once.
+AT_ONCE = 64
+
+
+def judge_burst(node, chance):
+    """An edit that comes behind many who ask for all, each over a connection of its own, waits for few of them."""
+    request, begun = node.text("GET", "/doc"), time.perf_counter()
+    node.answer("GET", "/doc")
+    alone = time.perf_counter() - begun
+    with contextlib.ExitStack() as stack, node.link() as link:
+        links = [stack.enter_context(node.link()) for _ in range(AT_ONCE)]
+        for each in links:
+            each.socket.sendall(request)
+        took = []
+        for _, (_, edit) in zip(range(8), edits(node, chance)):
+            begun = time.perf_counter()
+            want(link.answer(edit).status == 200, "an edit is refused")
+            took.append(time.perf_counter() - begun)
+    said = f"behind {AT_ONCE} of {alone * 1000:.0f} ms: longest edit {max(took) * 1000:.0f} ms"
+    want(max(took) < 0.2 + 4 * alone, f"an edit waits for many who ask for all {said}")
+    return said
+
+
 def try_greedy(asked, folder):
     node, chance = Node(asked.program, folder), random.Random(asked.seed)
     with running(node):
         load_entries(node, asked.entries)
         said = [judge(node, chance, clients, asked.seconds) for clients in (1, 4)]
+        said.append(judge_burst(node, chance))
     return "; ".join(said)

@@ -186,7 +186,7 @@ def try_token(asked, folder):
         with running(b):
             stack.enter_context(running(a))
             tells(a, b.port, ["refused", "401"])
-            a.stands(b.port, False, "refused: 401: the token of this node is due")
+            a.stands(b.port, False, "refused: 401: the token is due: none or a wrong one was given")
             want(a.standing(b.port)["ago"] is None, "a peer that was never met is said to be")
             put(a, 1)
             soon(lambda: a.count("rds_peer_refusals_total") > 1, "a peer that refuses isn't asked again", 10 * a.slow)

@@ -106,7 +106,7 @@ def try_words(asked, folder):
     (node.folder / "wrong").write_text(TOKEN[::-1])
     (node.folder / "short").write_text("short")
     refusals = [
-        ((), None, b"fault 23: PeerEnded\n", "refused: 401: the token of this node is due\n"),
+        ((), None, b"fault 23: PeerEnded\n", "refused: 401: the token is due: none or a wrong one was given\n"),
         ((), "wrong", b"fault 23: PeerEnded\n", "refused: 401"),
         (("x",), "short", b"fault 27: Usage\n", "short holds no token"),
         (("x", "--token-file", "none"), "token", b"fault 24: Device\n", "cannot read none"),

@@ -178,6 +178,72 @@ def packed_lives_text(live, table):
     return packed(len(rows)) + b"".join(packed_row_text(last, *row, table) for last, row in zip(lasts, rows))
 
 
+def packed_gaps_text(gaps):
+    ends = [0] + [last for _, last in gaps]
+    return b"".join(packed(first - end) + packed(last - first) for end, (first, last) in zip(ends, gaps))
+
+
+def packed_tops_text(of):
+    """Dots in few bytes: for each replica its top, and each gap as its distance from the end of the one before.
+
+    >>> packed_tops_text({}).hex()
+    '00'
+
+    Three replicas: one without gaps, one with two, and one whose single dot has a number of two bytes.
+
+    >>> packed_tops_text({0: (3, []), 2: (9, [(1, 2), (5, 7)]), 255: (200, [(1, 199)])}).hex(" ")
+    '03 00 03 00 02 09 02 01 01 03 02 ff c8 01 01 01 c6 01'
+    """
+    rows = (bytes([at]) + packed(top) + packed(len(gaps)) + packed_gaps_text(gaps) for at, (top, gaps) in of.items())
+    return packed(len(of)) + b"".join(rows)
+
+
+def shared(before, key):
+    """How many bytes two keys have in common before they differ."""
+    pairs = enumerate(zip(before, key))
+    return next((place for place, (own, other) in pairs if own != other), min(len(before), len(key)))
+
+
+def packed_table_text(keys):
+    """A table in few bytes: each key as how many bytes it shares with the front of the one before, and the others.
+
+    >>> packed_table_text([]).hex()
+    '00'
+
+    Keys that share two bytes, none, a whole key, and a byte of a letter of two.
+
+    >>> packed_table_text(["m10", "m12", "k", "kk", "\u00e9", "\u00e8"]).hex(" ")
+    '06 00 03 6d 31 30 02 01 32 00 01 6b 01 01 6b 00 02 c3 a9 01 01 a8'
+    """
+    keys = [key.encode() for key in keys]
+    text = packed(len(keys))
+    for before, key in zip([b""] + keys, keys):
+        count = shared(before, key)
+        text += bytes([count]) + piece(key[count:])
+    return text
+
+
+def packed_counts_text(numbers, table):
+    """Rows of counters in few bytes, each with the number of its key in a table.
+
+    >>> packed_counts_text({}, {}).hex()
+    '00'
+    >>> packed_counts_text({("b", 0): (0, 1), ("a", 2): (300, 0), ("a", 1): (1, 2)}, {"b": 0, "a": 1}).hex(" ")
+    '03 01 01 01 02 01 02 ac 02 00 00 00 00 01'
+    """
+    row_text = lambda key, at, pair: packed(table[key]) + bytes([at]) + b"".join(map(packed, pair))
+    return packed(len(numbers)) + b"".join(row_text(*place, pair) for place, pair in count_rows(numbers))
+
+
+def packed_parts_text(seen, live, numbers):
+    """A state in few bytes: the table of its keys, its dots, its live rows and its numbers."""
+    used = [key for _, (path, _, _) in sorted(live.items()) for key in path]
+    used += [key for (key, _), _ in count_rows(numbers)]
+    table = {key: place for place, key in enumerate(dict.fromkeys(used))}
+    counts = packed_counts_text(numbers, table)
+    return packed_table_text(table) + packed_tops_text(seen) + packed_lives_text(live, table) + counts
+
+
 def lives_text(lives):
     """The shorter of the lengths of stretches, live first, and bits."""
     lengths = [0]
@@ -442,6 +508,135 @@ class Parts(Reader):
             rows[last] = entry
         return rows
 
+    def packed_dots(self):
+        """Each replica's top and gaps, as `packed_tops_text` has them.
+
+        >>> def read(text):
+        ...     try:
+        ...         return Parts(bytes.fromhex(text), 3).packed_dots()
+        ...     except Refused as refused:
+        ...         return refused.number
+        >>> read("00"), read("02 00 03 00 02 09 02 01 01 03 02")
+        ({}, {0: (3, []), 2: (9, [(1, 2), (5, 7)])})
+
+        What is cut, a replica past the roster, one that comes twice, a top of 0, a gap at 0, one that the gap before
+        touches, one that ends at the top, and a number with a last 0.
+
+        >>> [read(text) for text in ["01 00 03", "01 03 03 00", "02 00 03 00 00 03 00", "01 00 00 00"]]
+        [12, 13, 13, 13]
+        >>> [read(text) for text in ["01 00 09 01 00 00", "01 00 09 02 01 00 01 00", "01 00 09 01 01 08", "81 00"]]
+        [13, 13, 13, 13]
+        """
+        of = {}
+        count = self.packed()
+        refuse_if(count >= 2**32, 13)
+        for _ in range(count):
+            replica = self.ascending(self.replica(), max(of, default=None))
+            top = self.packed()
+            refuse_if(not 1 <= top <= GREATEST, 13)
+            size = self.packed()
+            refuse_if(size >= 2**32, 13)
+            of[replica] = top, self.packed_gaps(top, size)
+        return of
+
+    def packed_gaps(self, top, size):
+        gaps = []
+        for _ in range(size):
+            end = gaps[-1][1] if gaps else 0
+            first = end + self.packed()
+            refuse_if(first < (end + 2 if gaps else 1), 13)
+            last = first + self.packed()
+            refuse_if(last >= top, 13)
+            gaps.append((first, last))
+        return gaps
+
+    def packed_table(self):
+        """The keys of a table, as `packed_table_text` has them.
+
+        >>> def read(text):
+        ...     try:
+        ...         return Parts(bytes.fromhex(text), 3).packed_table()
+        ...     except Refused as refused:
+        ...         return refused.number
+        >>> read("00"), read("03 00 02 6d 31 01 01 32 02 00")
+        ([], 13)
+        >>> read("04 00 02 6d 31 01 01 32 01 00 00 02 c3 a9"), read("02 00 02 c3 a9 01 01 a8")
+        (['m1', 'm2', 'm', '\u00e9'], ['\u00e9', '\u00e8'])
+
+        What is cut, a front of the first key, a longer front than the key before, a shorter one than they share, no
+        key, a key of 65 bytes, one with '/', one that isn't UTF-8, and one that stands twice.
+
+        >>> [read(text) for text in ["01 00 01", "01 01 01 6d", "02 00 01 6d 02 01 6d", "02 00 01 6d 00 02 6d 6d"]]
+        [12, 13, 13, 13]
+        >>> [read(text) for text in ["01 00 00", "01 00 41", "01 00 01 2f", "01 00 01 c3", "02 00 01 6d 01 00"]]
+        [13, 13, 13, 13, 13]
+        """
+        keys, before = [], b""
+        known = set()
+        count = self.packed()
+        refuse_if(count >= 2**32, 13)
+        for _ in range(count):
+            front = self.number(1, 0, len(before))
+            size = self.number(1)
+            refuse_if(not 1 <= front + size <= 64, 13)
+            key = before[:front] + self.bytes(size)
+            refuse_if(shared(before, key) != front or b"/" in key or key in known, 13)
+            try:
+                keys.append(key.decode())
+            except UnicodeDecodeError:
+                raise Refused(13)
+            known.add(key)
+            before = key
+        return keys
+
+    def packed_counts(self, table):
+        """Rows of counters, as `packed_counts_text` has them, by the numbers of a table.
+
+        >>> table = Table(Parts(many(4, [piece("b"), piece("a")]), 3))
+        >>> def read(text):
+        ...     try:
+        ...         table.reader = Parts(bytes.fromhex(text), 3)
+        ...         return table.reader.packed_counts(table)
+        ...     except Refused as refused:
+        ...         return refused.number
+        >>> read("00"), read("02 01 02 ac 02 00 00 00 00 01")
+        ({}, {('a', 2): (300, 0), ('b', 0): (0, 1)})
+
+        What is cut, a key outside the table, a replica past the roster, two numbers of 0, one above the limit, and rows
+        out of order.
+
+        >>> [read(text) for text in ["01 01 02 01", "01 02 00 01 00", "01 00 03 01 00", "01 00 00 00 00"]]
+        [12, 13, 13, 13]
+        >>> [read(text) for text in ["01 00 00 80 80 80 80 80 80 40 00", "02 00 00 00 01 01 02 01 00"]]
+        [13, 13]
+        """
+        rows, before = {}, None
+        count = self.packed()
+        refuse_if(count >= 2**32, 13)
+        for _ in range(count):
+            key, replica = table.packed_key(), self.number(1)
+            before = self.ascending((key.encode(), replica), before)
+            refuse_if(replica >= self.count, 13)
+            pair = self.packed(), self.packed()
+            refuse_if(max(pair) > GREATEST or pair == (0, 0), 13)
+            rows[key, replica] = pair
+        return rows
+
+    def packed_state(self):
+        """Dots, live rows and numbers, as `packed_parts_text` has them.
+
+        >>> live = {(0, 1): (("m", "k1"), 1, (2, True)), (1, 7): (("m", "k2"), 2, (3, -5))}
+        >>> parts = {0: (3, []), 1: (7, [(1, 6)])}, live, {("hits", 1): (4, 2), ("k1", 0): (0, 9)}
+        >>> Parts(packed_parts_text(*parts), 2).packed_state() == parts
+        True
+        """
+        table = Table(self, self.packed_table())
+        seen = self.packed_dots()
+        live = self.packed_lives(seen, table)
+        numbers = self.packed_counts(table)
+        refuse_if(table.used != table.keys, 13)
+        return seen, live, numbers
+
     def lives(self, size):
         """Whether each of so many dots is live."""
         if self.number(1, 0, 1):
@@ -491,17 +686,23 @@ class Parts(Reader):
 
 
 class Table:
-    """The keys of a text of format 2, and those that were used so far, in the order of first use."""
+    """The keys of a text, and those that were used so far, in the order of first use."""
 
-    def __init__(self, reader):
-        self.reader, self.keys, self.used = reader, [], []
-        known = set()
-        for _ in range(reader.number(4)):
-            key = reader.key()
+    def __init__(self, reader, keys=None):
+        self.reader, self.keys, self.used = reader, keys, []
+        if keys is None:
+            self.keys = self.read()
+        self.met = set()
+
+    def read(self):
+        """The keys of a text of format 2."""
+        keys, known = [], set()
+        for _ in range(self.reader.number(4)):
+            key = self.reader.key()
             refuse_if(key in known, 13)
             known.add(key)
-            self.keys.append(key)
-        self.met = set()
+            keys.append(key)
+        return keys
 
     def key(self):
         return self.key_of(self.reader.number(4))

@@ -56,14 +56,16 @@ fn note_http<H: Eprint>(rt: &H, word: &str) {
     let _ = eprintln!(rt; "'{word}' is no node's address, as http://127.0.0.1:7780 is");
 }
 
+fn note_place<H: Eprint>(rt: &H, word: &str) {
+    let _ = eprintln!(rt; "did you mean http://{word}?");
+}
+
 /// Tells what a word may be meant as that stands where a file or a node does, where it is neither.
 pub fn note_no_file<H: Disk>(rt: &H, word: &str) {
     match meant_as(word) {
         Meant::Https => note_https(rt, word),
         Meant::Http if !is_site(word) => note_http(rt, word),
-        Meant::Place if is_missing(rt, word) => {
-            let _ = eprintln!(rt; "did you mean http://{word}?");
-        }
+        Meant::Place if is_missing(rt, word) => note_place(rt, word),
         _ => (),
     }
 }
@@ -80,16 +82,13 @@ fn is_missing<H: Disk>(rt: &H, path: &str) -> bool {
     matches!(fs::exists(rt, path), Ok(false))
 }
 
-/// Tells that a node's address is to stand where another word does.
+/// Tells that a node's address is to stand where another word does, and what that may be meant as.
 pub fn note_no_site<H: Eprint>(rt: &H, word: &str) {
+    let _ = eprintln!(rt; "'{word}' is no node, as http://127.0.0.1:7780 is");
     match meant_as(word) {
         Meant::Https => note_https(rt, word),
-        Meant::Place => {
-            let _ = eprintln!(rt; "'{word}' is no node: did you mean http://{word}?");
-        }
-        _ => {
-            let _ = eprintln!(rt; "'{word}' is no node, as http://127.0.0.1:7780 is");
-        }
+        Meant::Place => note_place(rt, word),
+        _ => (),
     }
 }
 

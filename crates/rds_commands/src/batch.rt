@@ -162,8 +162,9 @@ where
     }
     match edit_file_by(rt, path, input) {
         Ok(done) => {
-            let status = write_replies(writer, &done.answers);
-            note_lines(rt, input, &done.answers, status);
+            let answers = done.answers.as_slice();
+            let status = write_replies(writer, answers);
+            note_lines(rt, input, answers, status);
             status
         }
         Err(fault) => {

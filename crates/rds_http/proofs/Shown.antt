@@ -41,6 +41,6 @@ question_told headers held tag text bytes before response is text_is unknown ask
 
 -- the snapshot of the document is
 pub snapshot_shown : (look : Look) (place : List ℕ) (headers : Entries FieldValue) (before document : ReplicaValue) (response : Response)
-    → look ≡ Snapshot → document ≡ before → ShowsSnapshot document response → AnswersLook look before place headers response
+    → look ≡ Snapshot → document ≡ before → ShowsSnapshot headers document response → AnswersLook look before place headers response
 snapshot_shown look place headers before document response is same shown =
-    subst (λ l. AnswersLook l before place headers response) (sym is) (subst (λ d. ShowsSnapshot d response) same shown)
+    subst (λ l. AnswersLook l before place headers response) (sym is) (subst (λ d. ShowsSnapshot headers d response) same shown)

@@ -51,10 +51,11 @@ may_change _ = false
 
 -- what shows or brings as much as there is in the document
 abbrev pub is_long_look : Look → Bool
-is_long_look Shown.Page = false
-is_long_look Shown.Status = false
-is_long_look Shown.Metrics = false
-is_long_look _ = true
+is_long_look Shown.View = true
+is_long_look Shown.Here = true
+is_long_look Shown.Conflicts = true
+is_long_look Shown.Snapshot = true
+is_long_look _ = false
 
 abbrev pub is_long_post : Post → Bool
 is_long_post Answer = true

@@ -10,11 +10,15 @@ use Rattle.http_server.specs.Response.{IsResponse}
 use Rattle.rds_http.specs.Replies.{tag_fields, type_field}
 use Rattle.rds_http.specs.Tags.{always, is_known}
 
+-- the digits of a number
+abbrev pub IsNumeralOf : List ℕ → ℕ → Type 0
+IsNumeralOf digits number =
+    IsNumeral 10 (without_leading_plus digits) × (digits_value 10 (without_leading_plus digits) ≡ number)
+
 -- a field asks for all from a byte on: `bytes=N-`
 abbrev pub AsksRest : List ℕ → ℕ → Type 0
 AsksRest value first =
-    (digits : List ℕ) × (value ≡ codes "bytes=" ++ (digits ++ codes "-")) × IsNumeral 10 (without_leading_plus digits)
-    × (digits_value 10 (without_leading_plus digits) ≡ first)
+    (digits : List ℕ) × (value ≡ codes "bytes=" ++ (digits ++ codes "-")) × IsNumeralOf digits first
 
 -- what was had before is a part of what has this tag, as the request says, or takes for granted
 abbrev pub is_still : Option FieldValue → List ℕ → Bool

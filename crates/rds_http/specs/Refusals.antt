@@ -59,7 +59,7 @@ IsDenied Why.Host response =
     TellsWords 403 (codes "the Host field has to name this machine and this port") response
 IsDenied Why.Origin response = TellsWords 403 (codes "the Origin field names another site") response
 IsDenied Why.Token response =
-    TellsWith 401 (codes "the token of this node is due") (codes "www-authenticate") (codes "Bearer") response
+    TellsWith 401 (codes "the token is due: none or a wrong one was given") (codes "www-authenticate") (codes "Bearer") response
 
 -- there is no such resource
 abbrev pub IsUnknown : Response → Type 0

@@ -1,8 +1,8 @@
 //! The rest of a text, for who has its first bytes (RFC 9110, 2022).
-ghost use Rattle.std.specs.Prelude.{◌≡◌, ◌<◌, ◌∷◌, ◌++◌, [], drop, length, IfSome, IsTrue, OnOk, string_bytes};
+ghost use Rattle.std.specs.Prelude.{◌≡◌, ◌<◌, ◌∷◌, ◌++◌, [], codes, drop, length, IfSome, IsTrue, OnOk, string_bytes};
 ghost use Rattle.http_header.specs.FieldValue.{is_visible_text};
 ghost use Rattle.http_server.specs.Response.{IsBlank};
-ghost use Rattle.rds_http.specs.Ranges.{AsksRest, TellsFile, TellsRest, WantsRest};
+ghost use Rattle.rds_http.specs.Ranges.{AsksRest, IsNumeralOf, TellsFile, TellsRest, WantsRest};
 ghost use Rattle.rds_http.specs.Tags.{text_tag};
 
 use crate::conditions::{seen_of, text_tag};
@@ -85,6 +85,22 @@ fn rest_wanted(headers: &HeaderMap<HeaderValue>, tag: &[u8]) -> Option<usize>
 fn first_in(value: &[u8]) -> Option<usize>
     ensures { IfSome result (λ first. AsksRest value.now first) }
 {
-    let digits = value.strip_prefix(b"bytes=")?.strip_suffix(b"-")?;
-    str::from_utf8(digits).ok()?.parse::<usize>().ok()
+    number_in(digits_in(value)?)
+}
+
+/// What stands in a field that asks for all from a byte on, between its unit and its hyphen.
+fn digits_in(value: &[u8]) -> Option<&[u8]>
+    ensures { IfSome result (λ digits. value.now ≡ codes "bytes=" ++ (digits.now ++ codes "-")) }
+{
+    value.strip_prefix(b"bytes=")?.strip_suffix(b"-")
+}
+
+/// The number that digits are.
+fn number_in(digits: &[u8]) -> Option<usize>
+    ensures { IfSome result (λ number. IsNumeralOf digits.now number) }
+{
+    match str::from_utf8(digits) {
+        Ok(text) => text.parse::<usize>().ok(),
+        Err(_) => None,
+    }
 }

@@ -125,7 +125,7 @@ const FOREIGN_HOST: &str = "the Host field has to name this machine and this por
 
 const FOREIGN_PAGE: &str = "the Origin field names another site";
 
-const NO_TOKEN: &str = "the token of this node is due";
+const NO_TOKEN: &str = "the token is due: none or a wrong one was given";
 
 /// Answers with a status and words.
 pub fn tell(

@@ -150,7 +150,10 @@ pub fn may_be_long(method: &[u8], path: &[u8]) -> bool
     ensures { result ≡ may_be_long (asked_of method.now path.now) }
 {
     match route_of(method, path).asked {
-        Asked::Look(look) => !matches!(look, Look::Page | Look::Status | Look::Metrics),
+        Asked::Look(look) => matches!(
+            look,
+            Look::View | Look::Here | Look::Conflicts | Look::Snapshot
+        ),
         Asked::Post(post) => matches!(post, Post::Answer | Post::Pull),
         _ => false,
     }

@@ -22,6 +22,15 @@ module _ {A B C : Type 0} (g : B → C) (f : A → B) where
   twice (Ok a) = refl
   twice (Err e) = refl
 
+-- what a value becomes with these rows, one after the other
+abbrev pub adding : {A V : Type 0} → (V → A → V) → V → List A → V
+adding add v [] = v
+adding add v (a ∷ rows) = adding add (add v a) rows
+
+pub adding-push : {A V : Type 0} (add : V → A → V) (v : V) (rows : List A) (a : A) → adding add v (rows ++ a ∷ []) ≡ add (adding add v rows) a
+adding-push add v [] a = refl
+adding-push add v (row ∷ rows) a = adding-push add (add v row) rows a
+
 -- the value that has these rows takes the next one as the list does
 module _ {A V : Type 0} (f : List A → Reader A) (next : V → Reader V) (value : List A → V)
     (same : (before : List A) (bytes : List ℕ) → next (value before) bytes ≡ made_at (λ a. value (before ++ a ∷ [])) (f before) bytes) where
@@ -40,14 +49,14 @@ module _ {A V : Type 0} (f : List A → Reader A) (next : V → Reader V) (value
   after_row n before (Ok a) more = more a.0 a.1
   after_row n before (Err e) more = refl
 
-  times_are_rows : (n : ℕ) (before : List A) (bytes : List ℕ) → times next n (value before) bytes ≡ made_at value (rows_after f before n) bytes
+  pub times_are_rows : (n : ℕ) (before : List A) (bytes : List ℕ) → times next n (value before) bytes ≡ made_at value (rows_after f before n) bytes
   unfolding times rows_after
   times_are_rows zero before bytes = refl
   times_are_rows (suc n) before bytes =
       ap (λ (r : Result (V × List ℕ) Fault). r >>= λ x. times next n x.0 x.1) (same before bytes) ∙ after_row n before (f before bytes) (λ a rest. times_are_rows n (before ++ a ∷ []) rest)
 
   -- where four bytes can say how many they are
-  abbrev rows_where : ℕ → Bool → Reader V
+  abbrev pub rows_where : ℕ → Bool → Reader V
   rows_where n few = cond few (times next n (value [])) (λ _. Err Bad)
 
   module _ {W : Type 0} (make : V → W) where

@@ -1,5 +1,14 @@
+pub mod CountSteady
+pub mod CountTexts
+pub mod CountsValue
+pub mod FrontSteady
+pub mod FrontTexts
 pub mod GoOn
 pub mod PackedReading
 pub mod PackedSteady
 pub mod PackedTexts
+pub mod SeenReading
+pub mod SeenRows
+pub mod SeenSteady
+pub mod SeenTexts
 pub mod Wholes

@@ -13,7 +13,7 @@ ghost use Rattle.rds_packed.specs.PackedSteady.{packed_key_steady, packed_row_st
 
 use crate::keys::PackedKeys;
 use crate::rows::read_row;
-use rds_bytes::Table;
+use rds_bytes::{Table, TableKeys};
 use rds_dots::{Dot, DotSet};
 use rds_feeds::{
     Following, Gathering, Made, Making, Many, Once, Part, Progress, Then, Unfinished,
@@ -48,6 +48,20 @@ impl<S: DotSet> Model for PackedLives<S> {
 }
 
 impl<S: DotSet> PackedLives<S> {
+    /// What the live rows met of the table.
+    pub(crate) fn met(&self) -> Option<usize>
+        ensures { result ≡ met_of self.now.0 (live_keys (live_rows self.now.1)) }
+    {
+        self.met
+    }
+
+    /// The keys of the table, of which so much was met.
+    pub(crate) fn keys(&self, met: Option<usize>) -> TableKeys<'_>
+        ensures { result ≡ record { keys = self.now.0; met = met } }
+    {
+        self.table.keys(met)
+    }
+
     /// The table, the lives, and how many keys of the table they met in turn.
     pub fn into_parts(self) -> (Table, Lives<S>, Option<usize>)
         ensures table { result.0 ≡ self.0 }

@@ -55,7 +55,7 @@ pub fn read_row<'a, K: KeySource, S: DotSet>(
 }
 
 /// The length of the number of rows.
-fn count_length(count: usize) -> usize
+pub fn count_length(count: usize) -> usize
     ensures length { result ≡ length (packed_text count) }
     ensures most { result ≤ 7 }
 {

@@ -73,7 +73,7 @@ pub fn value_tag(value: &Scalar) -> u8
 }
 
 /// The bytes as text.
-fn text_of(bytes: &[u8]) -> Result<&str, Fault>
+pub fn text_of(bytes: &[u8]) -> Result<&str, Fault>
     ensures { MatchResult result (λ text. (text.now ≡ bytes.now) × (is_utf8 bytes.now ≡ true))
         (λ fault. (fault ≡ Bad) × (is_utf8 bytes.now ≡ false)) }
 {
@@ -94,7 +94,7 @@ fn read_text_length(bytes: &[u8]) -> Result<(u64, &[u8]), Fault>
 }
 
 /// As many bytes as are asked for.
-fn read_bytes(count: usize, bytes: &[u8]) -> Result<(&[u8], &[u8]), Fault>
+pub fn read_bytes(count: usize, bytes: &[u8]) -> Result<(&[u8], &[u8]), Fault>
     ensures { ReadsExactly (λ x. (x.0.now, x.1.now)) result (bytes_at count bytes.now) }
 {
     if bytes.len() < count {

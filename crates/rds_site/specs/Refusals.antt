@@ -5,7 +5,7 @@ use Rattle.http.specs.declared.request.Request.{Request}
 use Rattle.http_server.specs.declared.response.Response.{Response}
 use Rattle.http_server.specs.Response.{IsResponse}
 use Rattle.rds_http.specs.Answers.{Answers, asked_in, may_be_long, may_change}
-use Rattle.rds_http.specs.Refusals.{json, words_json}
+use Rattle.rds_http.specs.Refusals.{json}
 use Rattle.rds_http.specs.Replies.{Tells, type_field}
 use Rattle.rds_http.specs.Routes.{is_own_change}
 use Rattle.rds_http.specs.Site.{SiteValue}
@@ -48,7 +48,7 @@ TellsRefusal (Stalled seconds) response =
     response
 TellsRefusal Crowded response =
     IsResponse 503 (type_field json ∷ retry_field 1 ∷ [])
-    (words_json 503 (codes "too many answers are under way")) response
+    (codes "{\"status\":503,\"text\":\"too many answers are under way\"}") response
 
 -- a request is answered by the site, or refused, and then the site stays as it is
 abbrev pub AnswersOrRefuses : Option Refusal → SiteValue → Request (List ℕ) → Response → SiteValue → Type 0

@@ -213,6 +213,14 @@ impl Client {
         }
     }
 
+    /// Whether to hear it takes no time to speak of: it isn't asking, or what it says next is an edit.
+    pub fn is_short(&self) -> bool {
+        match &self.talk {
+            Talk::Http(_) => self.load.unread == 0 && self.socket.brings_edit(),
+            Talk::Live(_) | Talk::Parting(_) | Talk::Last => true,
+        }
+    }
+
     /// Whether what it was answered last made others wait.
     pub fn is_slow(&self) -> bool {
         matches!(self.talk, Talk::Http(_)) && self.load.is_slow

@@ -1,7 +1,7 @@
 //! The loop of a node: a site that runs. One process and one thread hold a document in its file, and serve it over
 //! HTTP, and meet other nodes over theirs. Read `words`, `addresses`; then `committed`, `reserve`, `schedule`,
-//! `refusals`, `behind`, `stalls`, `forks`, `logging`, `sockets`, `listeners`, `patience`, `clients`, `table`; then
-//! `channels`, `levels`, `exchanges`, `peers`, `peer_table`; then `arrivals`, `turns`, `running`.
+//! `refusals`, `behind`, `stalls`, `remains`, `forks`, `logging`, `sockets`, `listeners`, `patience`, `clients`,
+//! `table`; then `channels`, `levels`, `exchanges`, `peers`, `peer_table`; then `arrivals`, `turns`, `running`.
 #![tactic(auto)]
 
 mod addresses;
@@ -19,6 +19,7 @@ mod patience;
 mod peer_table;
 mod peers;
 mod refusals;
+mod remains;
 mod reserve;
 mod running;
 mod schedule;

@@ -7,7 +7,7 @@ ghost use Rattle.rds_site.specs.Refusals.{AnswersOrRefuses, refusal_of};
 use crate::behind::shows_behind;
 use crate::forks::{is_told_question, names_fork};
 use crate::refusals::{Refusal, is_change, is_edit, is_long, refuse};
-use crate::stalls::leave;
+use crate::remains::leave;
 use bytes::Bytes;
 use http::{Method, Request};
 use http_server::{Response, Service};
@@ -238,8 +238,8 @@ where
     H::File: LockFile,
 {
     /// The same over its file, which is read anew, where what had changed couldn't be kept: what it holds has to have
-    /// this mark. Refuses as [`Site::reopen`] does. `Device` also where others moved, removed or wrote over the file: what
-    /// it held is left beside it, where it is nowhere else.
+    /// this mark. Refuses as [`Site::reopen`] does. `Device` also where others moved, removed or wrote over the file:
+    /// what it held is left beside it, where it is nowhere else.
     pub fn reopen(self, rt: &H, kept: Mark) -> Result<LoggedSite<'a, H>, Fault>
         ensures behind { IfOk result (λ logged. logged.is_behind ≡ self.entry.is_behind) }
         ensures kept { IfOk result (λ logged. logged.site.document ≡ logged.site.kept) }

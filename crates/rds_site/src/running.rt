@@ -7,6 +7,7 @@ use crate::addresses::{check_reach, read_address};
 use crate::arrivals::Door;
 use crate::logging::{Hearing, Log, LoggedSite};
 use crate::peer_table::Peers;
+use crate::remains::check_remains;
 use crate::reserve::Reserve;
 use crate::table::Clients;
 use crate::turns::Turns;
@@ -106,6 +107,7 @@ where
     check_reach(rt, address, token.is_some(), words.is_open)?;
     let destinations = find_peers(rt, words.peers, address, token.as_ref())?;
     let clients = Clients::new(rt.alloc())?;
+    check_remains(rt, words.file)?;
     let mut file = DocumentFile::open(rt, words.file)?;
     check_writing(rt, words.file)?;
     file.keep(rt)?;

@@ -15,6 +15,9 @@ pub const LEAST_ROOM: usize = 8192;
 /// The room that a read of what nobody wants is given, in bytes.
 const ROOM: usize = 4096;
 
+/// So many bytes tell whether a request is an edit.
+const EDIT_ROOM: usize = 11;
+
 /// How far a client or a peer was heard.
 #[derive(Clone, Copy, Debug, PartialEq, Eq)]
 pub enum Heard {
@@ -118,6 +121,18 @@ impl Socket {
     /// Notes that the client says nothing more than what has come.
     pub fn note_end(&mut self) {
         self.is_ending = true;
+    }
+
+    /// Whether what comes next begins as an edit over HTTP does. It is there to be read all the same.
+    pub fn brings_edit(&self) -> bool {
+        let mut bytes = [0; EDIT_ROOM];
+        match self.stream.peek(&mut bytes) {
+            Ok(count) => {
+                let begins = &bytes[..count.min(EDIT_ROOM)];
+                begins.starts_with(b"POST /edits") || begins.starts_with(b"PUT /value/")
+            }
+            Err(_) => false,
+        }
     }
 
     /// Reads requests, once.

@@ -5,9 +5,6 @@ ghost use Rattle.std.specs.Prelude.{◌≡◌, ◌<◌, ◌≤◌};
 use crate::refusals::UNKEPT;
 use crate::schedule::after;
 use bytes::BytesMut;
-use rds_files::{Disk, LockFile, is_there};
-use rds_http::Site;
-use rds_names::Fault;
 use std::alloc::{AllocError, Global};
 use std::time::{Duration, Instant};
 
@@ -15,9 +12,6 @@ use std::time::{Duration, Instant};
 const FIRST: u64 = 1;
 
 const LONGEST: u64 = 60;
-
-/// So many files are left beside one at most.
-const MOST_LEFT: u8 = 9;
 
 /// How the answer begins that is sent in place of what a change was answered, and of what a look was.
 const UNKEPT_HEAD: &str =
@@ -91,45 +85,6 @@ pub fn parting(alloc: Global, is_change: bool, seconds: u64) -> Result<BytesMut,
         text.extend_from_slice(UNSEEN.as_bytes())?;
     }
     Ok(text)
-}
-
-/// Leaves what a site has in a new file beside its own, where that was removed or written over: nothing else has it.
-/// Standard error says where it is.
-pub fn leave<H: Disk>(rt: &H, file: &str, site: Site<'_, H>)
-where
-    H::File: LockFile,
-{
-    let is_left = match free_name(rt, file) {
-        Ok(name) => {
-            let is_left = site.leave(rt, name.as_str()).is_ok();
-            if is_left {
-                let _ = eprintln!(rt; "{file}: what it held is in {name}");
-            }
-            is_left
-        }
-        Err(_) => false,
-    };
-    if !is_left {
-        let _ = eprintln!(rt; "{file}: what it held can't be written beside it, and is lost");
-    }
-}
-
-// The first of FILE.left, FILE.left2 and so on at which there is nothing.
-fn free_name<H: Disk>(rt: &H, file: &str) -> Result<String, Fault>
-where
-    H::File: LockFile,
-{
-    let first = format!(in rt.alloc(); "{file}.left")?;
-    if !is_there(rt, first.as_str())? {
-        return Ok(first);
-    }
-    for number in 2..=MOST_LEFT {
-        let name = format!(in rt.alloc(); "{first}{number}")?;
-        if !is_there(rt, name.as_str())? {
-            return Ok(name);
-        }
-    }
-    Err(Fault::Usage)
 }
 
 /// Tells on standard error, in a line, that changes of this file are refused from here on.

@@ -20,6 +20,9 @@ const MOST_ROOM: usize = 268_435_456;
 /// Where answers under way have more bytes than this, no other long one is begun.
 const MOST_OWED: usize = 268_435_456;
 
+/// Once clients were heard for so many milliseconds in a turn, only those are heard on that take no time to speak of.
+const LONG_TURN: u64 = 20;
+
 /// The clients of a site, and which of them have a turn.
 #[derive(Drop)]
 pub struct Clients {
@@ -157,8 +160,9 @@ impl Clients {
     }
 
     /// Hears those that have a turn, from now on. One that takes more room than is left for requests is let go. One that
-    /// made others wait is put off while the rest lasts. Where one change is tried, all behind it are put off, so that
-    /// no other answer depends on it.
+    /// made others wait is put off while the rest lasts. Once the turn is long, all are put off but those that edit, so
+    /// that an edit waits for one long answer at most. Where one change is tried, all behind it are put off, so that no
+    /// other answer depends on it.
     pub fn hear<H: Disk>(&mut self, rt: &H, site: &mut LoggedSite<'_, H>, now: Instant)
     where
         H::File: LockFile,
@@ -166,8 +170,9 @@ impl Clients {
         let mut began = now;
         for at in 0..self.due.len() {
             if let Some(key) = self.due.get(at).copied() {
-                let is_to_wait = site.is_trying && site.site.has_changed();
-                if self.is_to_rest(key, is_to_wait, began) {
+                let is_long = is_long_turn(now, began);
+                let is_last = site.is_trying && site.site.has_changed();
+                if self.is_put_off(key, is_last, is_long) || self.is_to_rest(key, began) {
                     continue;
                 }
                 self.hear_from(key, site);
@@ -178,12 +183,24 @@ impl Clients {
         }
     }
 
-    // Puts a client off where it made others wait, and the rest lasts; or where it is to wait in any case.
-    fn is_to_rest(&mut self, key: usize, is_to_wait: bool, now: Instant) -> bool {
+    // Puts a client off where no other is heard in this turn, or only those that take no time and it isn't one.
+    fn is_put_off(&mut self, key: usize, is_last: bool, is_long: bool) -> bool {
         let Some(client) = self.table.get_mut(key) else {
             return true;
         };
-        let is_to_rest = is_to_wait || client.is_slow() && !self.rest.left(now).is_zero();
+        let is_put_off = is_last || is_long && !client.is_short();
+        if is_put_off {
+            client.put_off();
+        }
+        is_put_off
+    }
+
+    // Puts a client off where it made others wait, and the rest lasts.
+    fn is_to_rest(&mut self, key: usize, now: Instant) -> bool {
+        let Some(client) = self.table.get_mut(key) else {
+            return true;
+        };
+        let is_to_rest = client.is_slow() && !self.rest.left(now).is_zero();
         if is_to_rest {
             client.put_off();
         }
@@ -321,6 +338,11 @@ impl Share {
             owed: client.owed(),
         }
     }
+}
+
+// Whether a turn that began at an instant has been long by another.
+fn is_long_turn(began: Instant, now: Instant) -> bool {
+    Duration::from_millis(LONG_TURN) <= now.duration_since(began)
 }
 
 // A count of which one part has changed.

@@ -71,7 +71,7 @@ impl Draft {
 
     /// The document alone.
     pub fn into_document(self) -> Document
-        ensures { result ≡ self.entry.document }
+        ensures { result ≡ self.document }
     {
         let Draft {
             document,
