@@ -36,8 +36,10 @@ GET /value/apples
   200 json {"counter":10,"reg":[],"set":[]}
 GET /value/apples/price?x=/y%
   200 json {"counter":null,"reg":[3],"set":[]}
-GET /value/app%6ces%2Fprice
+GET /value/app%6ces/price
   200 json {"counter":null,"reg":[3],"set":[]}
+GET /value/app%6ces%2Fprice
+  400 json {"fault":3,"name":"BadKey","text":".."}
 GET /value
   400 json {"fault":4,"name":"BadPath","text":".."}
 POST /edits ["set","a b/ü%20","é"]
@@ -463,7 +465,8 @@ PLACES = [
     ("POST", ANN, '["set","u/ann/mail","d@e.f"]', 'If-Match: "x", NOW', KILLED),
     ("POST", ANN, '["set","u/ann/mail","g@h.i"]', "If-Match: BEFORE", UNMET),
     ("POST", ANN, '["set","u/ann/mail","g@h.i"]', "If-None-Match: BEFORE", KILLED),
-    ("POST", "/edits/u%2Fann/m%61il", '["set","u/bob/mail","b@b.c"]', "If-Match: NOW", DOT),
+    ("POST", "/edits/u/%61nn/m%61il", '["set","u/bob/mail","b@b.c"]', "If-Match: NOW", DOT),
+    ("POST", "/edits/u%2Fann/mail", CREATED, "If-Match: *", BAD_KEY),
     ("POST", "/edits/u/ann", '["inc","n",1]', "If-Match: *", UNMET),
     ("POST", "/edits/u/ann", '["inc","n",1]', "If-None-Match: *", NO_DOT),
     ("POST", "/edits/u/ann", "", "If-Match: NOW", "200 x-ndjson "),
@@ -556,7 +559,7 @@ def judge_held(node, held):
     """Whether a node holds this replica: by its snapshot, and by what it tells of itself."""
     answer, due = node.answer("GET", "/snapshot"), file_text(held)
     found = answer.status, answer.headers.get("content-type"), answer.headers.get("etag"), answer.body
-    is_due = found == (200, "application/octet-stream", None, due)
+    is_due = found == (200, "application/octet-stream", tag_of_text(due), due)
     want(is_due, f"of {held.names} GET /snapshot is answered {answer}, where {due} is due")
     head = node.answer("HEAD", "/snapshot")
     want((head.status, head.headers) == (200, answer.headers), f"HEAD /snapshot has {head}, and GET {answer.headers}")
