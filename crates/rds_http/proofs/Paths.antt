@@ -5,7 +5,7 @@ use Rattle.std.proofs.lemmas.Str.{IsUtf8-from_is_utf8, is_utf8-from_IsUtf8}
 use Rattle.percent_encoding.specs.Percent.{percent_decode}
 use Rattle.rds_names.specs.declared.fault.Fault.{Fault}
 use Rattle.rds_names.specs.declared.fault.Fault.TheVariants.{BadKey}
-use Rattle.rds_http.specs.Looks.{place_text}
+use Rattle.rds_http.specs.Looks.{path_in}
 
 if_text : List ℕ → Bool → Result (List ℕ) Fault
 if_text bytes is = cond is (Ok bytes) (Err BadKey)
@@ -15,12 +15,12 @@ is_false true never = absurd (never refl)
 is_false false never = refl
 
 -- a text is one
-pub text_is_path : (place : List ℕ) → IsUtf8 (percent_decode place) → place_text place ≡ Ok (percent_decode place)
+pub text_is_path : (place : List ℕ) → IsUtf8 (percent_decode place) → path_in place ≡ Ok (percent_decode place)
 unfolding if_text
 text_is_path place is = ap (if_text (percent_decode place)) (is_utf8-from_IsUtf8 (percent_decode place) is)
 
 -- other bytes are none
-pub others_are_none : (place : List ℕ) → (IsUtf8 (percent_decode place) → ⊥) → place_text place ≡ Err BadKey
+pub others_are_none : (place : List ℕ) → (IsUtf8 (percent_decode place) → ⊥) → path_in place ≡ Err BadKey
 unfolding if_text
 others_are_none place never =
     ap (if_text (percent_decode place)) (is_false (is_utf8 (percent_decode place)) (λ is. never (IsUtf8-from_is_utf8 (percent_decode place) is)))

@@ -1,9 +1,8 @@
 -- What is shown of a document.
-use Rattle.std.specs.Prelude.{◌≡◌, ◌⊎◌, ℕ, ◌-◌, Bool, true, false, ◌==◌, List, [], ◌∷◌, ◌++◌, codes, decimal, Result, Ok, Err}
+use Rattle.std.specs.Prelude.{◌≡◌, ◌⊎◌, ℕ, ◌-◌, Bool, true, false, List, [], ◌∷◌, ◌++◌, codes, decimal, Result, Ok, Err}
 use Rattle.std.specs.Prelude.{length, take}
 use Rattle.std.specs.Prelude.{if◌then◌else◌, MatchResult, Option, None, Some, String, option_map, string_bytes}
 use Rattle.std.specs.Global.{Global, Vec}
-use Rattle.std.specs.List.{count_by}
 use Rattle.std.specs.Str.{is_utf8}
 use Rattle.http1.specs.Fields.{Header}
 use Rattle.http_header.specs.FieldValue.{FieldValue}
@@ -39,17 +38,9 @@ use Rattle.rds_http.specs.declared.routes.Look.TheVariants.{Ask, Snapshot}
 abbrev pub lines_of_json : List ℕ
 lines_of_json = codes "application/x-ndjson"
 
--- the text that a percent-encoded place is. Bytes that are no UTF-8 are no keys.
-abbrev pub place_text : List ℕ → Result (List ℕ) Fault
-place_text place = if is_utf8 (percent_decode place) then Ok (percent_decode place) else Err BadKey
-
--- how many slashes there are
-abbrev pub slashes : List ℕ → ℕ
-slashes text = count_by (λ b. b == 47) text
-
--- the path that it is. No key has a slash: one that is encoded parts no keys.
+-- the path that a percent-encoded place is. Bytes that are no UTF-8 are no keys.
 abbrev pub path_in : List ℕ → Result (List ℕ) Fault
-path_in place = place_text place >>= λ text. if slashes text == slashes place then Ok text else Err BadKey
+path_in place = if is_utf8 (percent_decode place) then Ok (percent_decode place) else Err BadKey
 
 -- what has this tag is reported to a request, or no more than that it is known
 abbrev pub TellsOf : Entries FieldValue → List ℕ → List ℕ → List ℕ → Response → Type 0

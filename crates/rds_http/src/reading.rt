@@ -25,8 +25,6 @@ ghost use Rattle.rds_http.specs.Looks.{
   own_field,
   page_fields,
   path_in,
-  place_text,
-  slashes,
   told_in,
   with_peers,
 };
@@ -355,30 +353,10 @@ fn known_path(alloc: Global, path: &str) -> Result<Option<String>, Fault>
     Ok(None)
 }
 
-/// The path that a percent-encoded place is. Bytes that are no UTF-8 are no keys, and no key has a slash: one that is
-/// encoded is refused, since it would part keys (`BadKey`).
+/// The path that a percent-encoded place is. Bytes that are no UTF-8 are no keys.
 pub fn path_in(alloc: Global, place: &[u8]) -> Result<String, Fault>
     ensures { MatchResult result (λ path. path_in place.now ≡ Ok (string_bytes path))
         (λ fault. (fault ≡ Memory) ⊎ (path_in place.now ≡ Err fault)) }
-{
-    let path = place_text(alloc, place)?;
-    if slashes(path.as_bytes()) != slashes(place) {
-        return Err(Fault::BadKey);
-    }
-    Ok(path)
-}
-
-/// How many slashes there are.
-fn slashes(text: &[u8]) -> usize
-    ensures { result ≡ slashes text.now }
-{
-    text.iter().filter(|b| **b == b'/').count()
-}
-
-/// The text that a percent-encoded place is. Bytes that are no UTF-8 are no keys.
-fn place_text(alloc: Global, place: &[u8]) -> Result<String, Fault>
-    ensures { MatchResult result (λ text. place_text place.now ≡ Ok (string_bytes text))
-        (λ fault. (fault ≡ Memory) ⊎ (place_text place.now ≡ Err fault)) }
 {
     match percent_decode(place).decode_utf8(alloc) {
         Ok(path) => Ok(path.into_owned(alloc)?),

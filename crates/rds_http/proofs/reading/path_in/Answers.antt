@@ -2,7 +2,7 @@ use Rattle.std.proofs.Common.{◌≡◌, ◌∙◌, Ok, ap, inr, string_bytes, s
 use Rattle.std.specs.Str.{IsUtf8}
 use Rattle.percent_encoding.specs.Percent.{percent_decode}
 use Rattle.rds_http.proofs.Paths.{others_are_none, text_is_path}
-use Rattle.rds_http.proofs.reading.place_text.Goals as goal
+use Rattle.rds_http.proofs.reading.path_in.Goals as goal
 
 pub returns-in_ok-into_owned-in-Ok : goal.returns-in_ok-into_owned-in-Ok
 returns-in_ok-into_owned-in-Ok c =
